@@ -1,0 +1,18 @@
+-- The laws of reading, each group resting on those above it: numbers and records (Signed, Nine, Heads, Cases), a formula and a whole sheet as
+-- the code reads them (Reading, Whole), what is written is read and what is read was written (Laws, Sound, Accepts, Trees), the first and
+-- the last quantifier and the look (Places, Scan, Looking), and that each promise allows one reply (Unique). Examples are worked sheets.
+pub mod Signed
+pub mod Nine
+pub mod Heads
+pub mod Cases
+pub mod Reading
+pub mod Whole
+pub mod Laws
+pub mod Sound
+pub mod Accepts
+pub mod Trees
+pub mod Places
+pub mod Scan
+pub mod Looking
+pub mod Unique
+pub mod Examples

@@ -1,0 +1,35 @@
+-- 01, 'Numbers that bound the work': each limit has its one home here. Every other file names it.
+use Prim.Native.Nat.{ℕ}
+
+-- M: coefficients, constants, lo and hi lie in −M..M
+abbrev pub M : ℕ
+M = 1073741823
+
+-- a sheet: at most this many bytes, nested at most this deep
+abbrev pub sheetBytes : ℕ
+sheetBytes = 4096
+
+abbrev pub sheetLevels : ℕ
+sheetLevels = 16
+
+-- a result, and what the test at fractions and the look take
+abbrev pub resultBytes : ℕ
+resultBytes = 65536
+
+abbrev pub resultLevels : ℕ
+resultLevels = 17
+
+-- the greatest variable's number, and how many variables there are
+abbrev pub lastVariable : ℕ
+lastVariable = 7
+
+abbrev pub variables : ℕ
+variables = 8
+
+-- boundary terms in one step
+abbrev pub mostTerms : ℕ
+mostTerms = 64
+
+-- the values and the denominator of a test at fractions
+abbrev pub mostValue : ℕ
+mostValue = 1000000

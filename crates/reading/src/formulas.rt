@@ -1,0 +1,53 @@
+// A formula: its record, and then the formulas that follow it, read by the same rule one level further in. Then a whole sheet.
+ghost use mathlib.Core.Path.{_≡_};
+ghost use Rattle.reading.specs.Reading.{formulaIn};
+ghost use Rattle.reading.specs.Answers.{replyOf, reading};
+use crate::Head;
+use crate::Reply;
+use crate::records::record_at;
+
+// The formula that s begins with, of at most `levels` levels: a formula inside it is the part of s from its record on.
+pub fn formula_at(s: &[u8], levels: usize) -> Reply
+    ensures { λ r. ⌜ r ≡ replyOf (formulaIn levels (now (s .entry))) ⌝ }
+{
+    match record_at(s) {
+        Head::Bad(n) => Reply::Refused(n, 0),
+        Head::Open(_, size, follow) => {
+            if levels == 0 {
+                return Reply::Refused(8, 0);
+            }
+            let mut at = size;
+            let mut i = 0;
+            while i < follow {
+                match formula_at(&s[at..], levels - 1) {
+                    Reply::Done(used) => {
+                        at += used;
+                    }
+                    Reply::Refused(n, p) => {
+                        return Reply::Refused(n, at + p);
+                    }
+                }
+                i += 1;
+            }
+            Reply::Done(at)
+        }
+    }
+}
+
+// A whole sheet of at most `bytes` bytes and `levels` levels. One that is longer is not walked.
+pub fn read_whole(s: &[u8], bytes: usize, levels: usize) -> Reply
+    ensures { λ r. ⌜ r ≡ reading bytes levels (now (s .entry)) ⌝ }
+{
+    if bytes < s.len() {
+        return Reply::Refused(2, 0);
+    }
+    match formula_at(s, levels) {
+        Reply::Refused(n, p) => Reply::Refused(n, p),
+        Reply::Done(k) => {
+            if k < s.len() {
+                return Reply::Refused(9, k);
+            }
+            Reply::Done(k)
+        }
+    }
+}

@@ -1,0 +1,78 @@
+// Reading a sheet: the limits, what the calls answer, and the two public calls. Both take every sheet and write nothing.
+pub mod formulas;
+pub mod numbers;
+pub mod quantifiers;
+pub mod records;
+
+ghost use mathlib.Core.Path.{_≡_};
+ghost use Rattle.reading.specs.Answers.{answerOf, reading};
+ghost use Rattle.reading.specs.Quantifiers.{look};
+
+// A sheet: at most this many bytes, nested at most this deep.
+pub const SHEET_BYTES: usize = 4096;
+
+pub const SHEET_LEVELS: usize = 16;
+
+// A result, and what the test at fractions and the look take.
+pub const RESULT_BYTES: usize = 65536;
+
+pub const RESULT_LEVELS: usize = 17;
+
+// Coefficients, constants, lo and hi lie in -MOST..MOST.
+pub const MOST: u32 = 1073741823;
+
+// The greatest variable's number.
+pub const LAST_VARIABLE: u16 = 7;
+
+// One record: the number of its refusal; or its kind, its length and how many formulas follow it.
+pub enum Head {
+    Bad(usize),
+    Open(u16, usize, usize),
+}
+
+// A formula: how many bytes it takes; or the number and the place of the refusal.
+pub enum Reply {
+    Done(usize),
+    Refused(usize, usize),
+}
+
+// The public answer: 0 and 0 where nothing is refused.
+pub struct Answer {
+    pub number: usize,
+    pub place: usize,
+}
+
+// The offset of a quantifier's record.
+pub enum Found {
+    At(usize),
+    Nothing,
+}
+
+// A part of the caller's bytes.
+pub struct Part {
+    pub at: usize,
+    pub length: usize,
+}
+
+// The number and the place of the answer for a whole sheet of at most `bytes` bytes and `levels` levels.
+pub fn read(s: &[u8], bytes: usize, levels: usize) -> Answer
+    ensures { λ r. ⌜ r ≡ answerOf (reading bytes levels (now (s .entry))) ⌝ }
+{
+    match formulas::read_whole(s, bytes, levels) {
+        Reply::Done(_) => Answer {
+            number: 0,
+            place: 0,
+        },
+        Reply::Refused(number, place) => Answer { number, place },
+    }
+}
+
+// The body of the last quantifier, as that part of the caller's bytes: empty where there is none, and where the sheet is refused.
+pub fn look(s: &[u8]) -> &[u8]
+    ensures { λ r. ⌜ now r ≡ look (now (s .entry)) ⌝ }
+{
+    let part = quantifiers::look_part(s);
+    let at = part.at;
+    let end = at + part.length;
+    &s[at..end]
+}

@@ -1,0 +1,36 @@
+// Reads cases from standard input, each its length in four bytes and then its bytes, and prints a line for each: number and place under the
+// sheet's limits, number and place under the look's, and where the look's part begins and how long it is.
+
+fn line(s: &[u8]) {
+    let sheet = reading::read(s, reading::SHEET_BYTES, reading::SHEET_LEVELS);
+    cases::show(sheet.number, b" ");
+    cases::show(sheet.place, b" ");
+    let result = reading::read(s, reading::RESULT_BYTES, reading::RESULT_LEVELS);
+    cases::show(result.number, b" ");
+    cases::show(result.place, b" ");
+    let part = reading::quantifiers::look_part(s);
+    cases::show(part.at, b" ");
+    cases::show(part.length, b"\n");
+}
+
+// A line for the first n bytes; false where there are not so many.
+fn shown(buffer: &[u8], n: usize) -> bool {
+    if buffer.len() < n {
+        return false;
+    }
+    line(&buffer[..n]);
+    true
+}
+
+fn main() {
+    let mut buffer = [0u8; 65600];
+    let mut left: u64 = 20000;
+    while left > 0 {
+        let n = cases::fetch(&mut buffer);
+        if shown(&buffer, n) {
+            left -= 1;
+        } else {
+            return;
+        }
+    }
+}
