@@ -1,0 +1,213 @@
+-- Boundary terms and midpoints: what the loops that make them have done, their sizes and lengths, that their denominators are above 0, and
+-- that the midpoint of a term with itself is the term. Assumes nothing.
+-- ---- a number with its variable left out, or its sign turned
+use mathlib.Core.Logic.{_⊎_, inl, inr}
+use native.Mathlib.Nat as N
+use lib.Seq.{ext-getD}
+use mathlib.Core.Path.{_≡_, refl, sym, _∙_, ap, ap₂, subst}
+use mathlib.Core.List.{List}
+use mathlib.Core.Bool.{Bool, true, false, not, cond}
+use Prim.Native.Nat.{_*_, ℕ, _<_, zero-le, zero, suc}
+use native.Mathlib.Omega.{arith}
+use lib.Dec.{T, leb·suc-zero, eqb, ltb, lit<}
+use borrow.Author.Tests.{lt-ltb, eq-eqb, ne-eqb}
+use lib.ListN.{set, length}
+use lib.IntN.{ℤ, pos, _+ℤ_, _*ℤ_, negsuc, negℤ}
+use lib.Signed.{ltZ}
+use Rattle.reading.specs.Limits.{M}
+use Rattle.exact.specs.Numbers.{at, isZero, minus, tab, Within, Each}
+use Rattle.exact.specs.Terms.{leftAt, turned, termAt, midAt, midOf, boundOf, termOf, midpoint}
+use Rattle.exact.specs.Divisor.{reduced}
+use Rattle.exact.proofs.Ring.{Expr.con, Expr._⊕_, Expr._⊗_, Expr.⊖_, _≐_, ring₁, ring₂}
+use Rattle.exact.proofs.Sizes.{in-neg, in-more, in-+, in-*, in-lit}
+use Rattle.exact.proofs.Loops.{Filled, fill-more, fill-done, length-tab, tab-ext}
+use Rattle.exact.proofs.Rows.{each-tab, each-reduced, at-minus, at-tab, at-times, each-cons, each-nil, length-reduced, length-times, times}
+use Rattle.exact.proofs.Sign.{Above, ab-*, ab-as}
+use Rattle.exact.proofs.Reduced.{above-reduced, reduced-again, reduced-scale, unit-reduced}
+
+pub left-out : (ns : List ℤ) (x i : ℕ) → i ≡ x → pos 0 ≡ leftAt ns x i
+unfolding leftAt
+left-out ns x i e = sym (ap (λ (b : Bool). cond b (pos 0) (at ns i)) (eq-eqb i x e))
+
+pub left-in : (ns : List ℤ) (x i : ℕ) → (i ≡ x → ⊥) → at ns i ≡ leftAt ns x i
+unfolding leftAt
+left-in ns x i n = sym (ap (λ (b : Bool). cond b (pos 0) (at ns i)) (ne-eqb i x n))
+
+pub in-left : {n : ℕ} {ns : List ℤ} (x i : ℕ) → Each n ns → Within n (leftAt ns x i)
+unfolding leftAt
+in-left {n} {ns} x i e = go (eqb i x)
+  where
+    go : (b : Bool) → Within n (cond b (pos 0) (at ns i))
+    go true = record { size = zero-le }
+    go false = e .at i
+
+pub in-turned : {n : ℕ} {z : ℤ} (b : Bool) → Within n z → Within n (turned b z)
+in-turned true h = in-neg h
+in-turned false h = h
+
+-- ---- the boundary term before it is reduced
+
+pub term-low : (ns : List ℤ) (x i : ℕ) → i < 9 → turned (not (ltZ (at ns x) (pos 0))) (leftAt ns x i) ≡ termAt ns x i
+unfolding termAt
+term-low ns x i h =
+    sym (ap (λ (b : Bool). cond b (turned (not (ltZ (at ns x) (pos 0))) (leftAt ns x i)) (turned (ltZ (at ns x) (pos 0)) (at ns x))) (lt-ltb i 9 h))
+
+pub term-last : (ns : List ℤ) (x : ℕ) → turned (ltZ (at ns x) (pos 0)) (at ns x) ≡ termAt ns x 9
+unfolding termAt
+term-last ns x = refl
+
+pub term-done : (ns : List ℤ) (x : ℕ) {m : List ℤ} {v : ℤ} → Filled (pos 0) (termAt ns x) 10 m 9 → v ≡ turned (ltZ (at ns x) (pos 0)) (at ns x) → set m 9 v ≡ tab 10 (termAt ns x)
+term-done ns x {m} {v} f e = fill-done (pos 0) (termAt ns x) 10 (fill-more (pos 0) (termAt ns x) 10 v (lit< tt) f (e ∙ term-last ns x))
+
+-- ---- the midpoint before it is reduced
+
+pub mid-low : (t u : List ℤ) (i : ℕ) → i < 9 → at t i *ℤ at u 9 +ℤ at u i *ℤ at t 9 ≡ midAt t u i
+unfolding midAt
+mid-low t u i h = sym (ap (λ (b : Bool). cond b (at t i *ℤ at u 9 +ℤ at u i *ℤ at t 9) (pos 2 *ℤ at t 9 *ℤ at u 9)) (lt-ltb i 9 h))
+
+pub mid-last : (t u : List ℤ) → pos 2 *ℤ at t 9 *ℤ at u 9 ≡ midAt t u 9
+unfolding midAt
+mid-last t u = refl
+
+pub mid-done : (t u : List ℤ) {m : List ℤ} {v : ℤ} → Filled (pos 0) (midAt t u) 10 m 9 → v ≡ pos 2 *ℤ at t 9 *ℤ at u 9 → set m 9 v ≡ midOf t u
+unfolding midOf
+mid-done t u {m} {v} f e = fill-done (pos 0) (midAt t u) 10 (fill-more (pos 0) (midAt t u) 10 v (lit< tt) f (e ∙ mid-last t u))
+
+-- ---- sizes
+
+pub each-raw : {ns : List ℤ} (x : ℕ) → Each M ns → Each M (tab 10 (termAt ns x))
+unfolding termAt
+each-raw {ns} x e = each-tab 10 (termAt ns x) (λ i. go i (ltb i 9))
+  where
+    go : (i : ℕ) (b : Bool) → Within M (cond b (turned (not (ltZ (at ns x) (pos 0))) (leftAt ns x i)) (turned (ltZ (at ns x) (pos 0)) (at ns x)))
+    go i true = in-turned (not (ltZ (at ns x) (pos 0))) (in-left x i e)
+    go i false = in-turned (ltZ (at ns x) (pos 0)) (e .at x)
+
+pub each-mid : {t u : List ℤ} → Each M t → Each M u → Each 9223372036854775807 (midOf t u)
+unfolding midOf midAt
+each-mid {t} {u} p q = each-tab 10 (midAt t u) (λ i. go i (ltb i 9))
+  where
+    go : (i : ℕ) (b : Bool) → Within 9223372036854775807 (cond b (at t i *ℤ at u 9 +ℤ at u i *ℤ at t 9) (pos 2 *ℤ at t 9 *ℤ at u 9))
+    go i true = in-more (in-+ (in-* (p .at i) (q .at 9)) (in-* (q .at i) (p .at 9))) (omega arith)
+    go i false = in-more (in-* (in-* (in-lit {n = 2} {z = pos 2} tt) (p .at 9)) (q .at 9)) (omega arith)
+
+-- the reduced midpoint is judged by `within_all`, which asks for this
+pub each-midpoint : {t u : List ℤ} → Each M t → Each M u → Each 9223372036854775807 (midpoint t u)
+unfolding midpoint
+each-midpoint p q = each-reduced (each-mid p q)
+
+pub each-term : {ns : List ℤ} (x : ℕ) → Each M ns → Each M (termOf ns x)
+unfolding termOf
+each-term x e = each-reduced (each-raw x e)
+
+pub each-bound : {c : ℤ} → Within M c → Each M (boundOf c)
+unfolding boundOf
+each-bound h =
+    let o : Within M (pos 0) = in-lit tt in
+    each-cons o (each-cons o (each-cons o (each-cons o (each-cons o (each-cons o (each-cons o (each-cons o (each-cons h (each-cons (in-lit tt) each-nil)))))))))
+
+-- ---- ten numbers, reduced
+
+pub term-long : (ns : List ℤ) (x : ℕ) → length (termOf ns x) ≡ 10
+unfolding termOf
+term-long ns x = length-reduced (tab 10 (termAt ns x)) ∙ length-tab 10 (termAt ns x)
+
+pub term-reduced : (ns : List ℤ) (x : ℕ) → reduced (termOf ns x) ≡ termOf ns x
+unfolding termOf
+term-reduced ns x = reduced-again (tab 10 (termAt ns x))
+
+pub bound-long : (c : ℤ) → length (boundOf c) ≡ 10
+unfolding boundOf
+bound-long c = refl
+
+pub bound-reduced : (c : ℤ) → reduced (boundOf c) ≡ boundOf c
+unfolding boundOf
+bound-reduced c = unit-reduced (boundOf c) 9 refl
+
+mid-raw-long : (t u : List ℤ) → length (midOf t u) ≡ 10
+unfolding midOf
+mid-raw-long t u = length-tab 10 (midAt t u)
+
+pub mid-long : (t u : List ℤ) → length (midpoint t u) ≡ 10
+unfolding midpoint
+mid-long t u = length-reduced (midOf t u) ∙ mid-raw-long t u
+
+pub mid-reduced : (t u : List ℤ) → reduced (midpoint t u) ≡ midpoint t u
+unfolding midpoint
+mid-reduced t u = reduced-again (midOf t u)
+
+-- ---- a denominator above 0
+
+turned-above : (a : ℤ) → isZero a ≡ false → Above (turned (ltZ a (pos 0)) a)
+turned-above (pos zero) h = absurd (subst T h tt)
+turned-above (pos (suc n)) h = ab-as (ap (λ (b : Bool). turned b (pos (suc n))) (leb·suc-zero (suc n))) (record { n = n; is = refl })
+turned-above (negsuc n) h = record { n = n; is = refl }
+
+pub term-above : (ns : List ℤ) (x : ℕ) → isZero (at ns x) ≡ false → Above (at (termOf ns x) 9)
+unfolding termOf
+term-above ns x h = above-reduced (tab 10 (termAt ns x)) 9 (ab-as (at-tab 10 (termAt ns x) 9 (lit< tt) ∙ sym (term-last ns x)) (turned-above (at ns x) h))
+
+pub bound-above : (c : ℤ) → Above (at (boundOf c) 9)
+unfolding boundOf
+bound-above c = record { n = 0; is = refl }
+
+mid-raw-last : (t u : List ℤ) → at (midOf t u) 9 ≡ pos 2 *ℤ at t 9 *ℤ at u 9
+unfolding midOf
+mid-raw-last t u = at-tab 10 (midAt t u) 9 (lit< tt) ∙ sym (mid-last t u)
+
+pub mid-above : (t u : List ℤ) → Above (at t 9) → Above (at u 9) → Above (at (midpoint t u) 9)
+unfolding midpoint
+mid-above t u h k = above-reduced (midOf t u) 9 (ab-as (mid-raw-last t u) (ab-* (ab-* (record { n = 1; is = refl }) h) k))
+
+-- ---- midpoint i with i is the term
+
+module _ (t : List ℤ) (n : ℕ) (e : at t 9 ≡ pos (suc n)) where
+  same-number : (i : ℕ) → (i ≡ 9) ⊎ (i < 9) → midAt t t i ≡ at t i *ℤ pos (2 * suc n)
+  same-number i (inl q) =
+      ap (midAt t t) q ∙ sym (mid-last t t) ∙ ring₁ (at t 9) (λ d. con (pos 2) ⊗ d ⊗ d ≐ d ⊗ (con (pos 2) ⊗ d)) refl
+      ∙ ap₂ (λ (y z : ℤ). y *ℤ (pos 2 *ℤ z)) (ap (at t) (sym q)) e
+  same-number i (inr h) =
+      sym (mid-low t t i h) ∙ ring₂ (at t i) (at t 9) (λ x d. x ⊗ d ⊕ x ⊗ d ≐ x ⊗ (con (pos 2) ⊗ d)) refl ∙ ap (λ (z : ℤ). at t i *ℤ (pos 2 *ℤ z)) e
+
+  mid-times : length t ≡ 10 → midOf t t ≡ times (2 * suc n) t
+  unfolding midOf
+  mid-times l =
+      ext-getD (pos 0) (midOf t t) (times (2 * suc n) t) (length-tab 10 (midAt t t) ∙ sym (length-times (2 * suc n) t ∙ l))
+      (λ i h. let k : i < 10 = subst (λ (m : ℕ). i < m) (length-tab 10 (midAt t t)) h in
+      at-tab 10 (midAt t t) i k ∙ same-number i (N.eq-or-lt-of-le (N.le-of-suc-le-suc k)) ∙ sym (at-times (2 * suc n) t i))
+
+pub mid-self : (t : List ℤ) → length t ≡ 10 → Above (at t 9) → reduced t ≡ t → midpoint t t ≡ t
+unfolding midpoint
+mid-self t l a r = ap reduced (mid-times t (a .n) (a .is) l) ∙ reduced-scale (2 * suc (a .n)) t (omega arith) ∙ r
+
+-- ---- turning each sign of an atom leaves its boundary term as it is
+
+left-minus : (ns : List ℤ) (x i : ℕ) → leftAt (minus ns) x i ≡ negℤ (leftAt ns x i)
+unfolding leftAt
+left-minus ns x i = go (eqb i x)
+  where
+    go : (b : Bool) → cond b (pos 0) (at (minus ns) i) ≡ negℤ (cond b (pos 0) (at ns i))
+    go true = refl
+    go false = at-minus ns i
+
+turn-twice : (b : Bool) (z : ℤ) → turned (not b) (negℤ z) ≡ turned b z
+turn-twice true z = refl
+turn-twice false z = ring₁ z (λ x. ⊖ (⊖ x) ≐ x) refl
+
+neg-below : (a : ℤ) → isZero a ≡ false → ltZ (negℤ a) (pos 0) ≡ not (ltZ a (pos 0))
+neg-below (pos zero) h = absurd (subst T h tt)
+neg-below (pos (suc n)) h = sym (ap not (leb·suc-zero (suc n)))
+neg-below (negsuc n) h = leb·suc-zero (suc n)
+
+pub term-minus : (ns : List ℤ) (x : ℕ) → isZero (at ns x) ≡ false → termOf (minus ns) x ≡ termOf ns x
+unfolding termOf termAt
+term-minus ns x h = ap reduced (tab-ext 10 (termAt (minus ns) x) (termAt ns x) (λ i. ap₂ (λ (y z : ℤ). cond (ltb i 9) y z) (low i) high))
+  where
+    s : ltZ (at (minus ns) x) (pos 0) ≡ not (ltZ (at ns x) (pos 0))
+    s = ap (λ (z : ℤ). ltZ z (pos 0)) (at-minus ns x) ∙ neg-below (at ns x) h
+
+    low : (i : ℕ) → turned (not (ltZ (at (minus ns) x) (pos 0))) (leftAt (minus ns) x i) ≡ turned (not (ltZ (at ns x) (pos 0))) (leftAt ns x i)
+    low i = ap₂ (λ (b : Bool) (z : ℤ). turned (not b) z) s (left-minus ns x i) ∙ turn-twice (not (ltZ (at ns x) (pos 0))) (leftAt ns x i)
+
+    high : turned (ltZ (at (minus ns) x) (pos 0)) (at (minus ns) x) ≡ turned (ltZ (at ns x) (pos 0)) (at ns x)
+    high = ap₂ turned s (at-minus ns x) ∙ turn-twice (ltZ (at ns x) (pos 0)) (at ns x)

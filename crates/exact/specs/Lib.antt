@@ -1,0 +1,4 @@
+pub mod Numbers
+pub mod Divisor
+pub mod Terms
+pub mod Atoms

@@ -1,0 +1,37 @@
+// Exact arithmetic: greatest common divisors, reduced rows, boundary terms, midpoints, and an atom at a point.
+pub mod atom;
+pub mod number;
+pub mod row;
+pub mod term;
+
+// M: coefficients, constants, lo and hi lie in -M..M.
+pub const MOST: u64 = reading::MOST as u64;
+
+// How an atom comes out at a point.
+pub enum Outcome {
+    True,
+    False,
+    New,
+}
+
+// The kind of a point: below all numbers, above all, a fraction, or none (the finishing pass).
+pub enum PointKind {
+    Below,
+    Above,
+    Here,
+    Nowhere,
+}
+
+// A point for the variable x: its kind and, for a fraction, eight coefficients, a constant and a denominator.
+pub struct Point {
+    pub kind: PointKind,
+    pub x: usize,
+    pub n: [i64; 10],
+}
+
+// The outcome of an atom, its nine numbers beside it, and whether these lie in -M..M.
+pub struct Put {
+    pub outcome: Outcome,
+    pub fits: bool,
+    pub nums: [i64; 9],
+}
