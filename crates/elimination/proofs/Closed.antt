@@ -1,0 +1,132 @@
+-- A closed sheet that is not refused is decided: its result is the true or the false record, so its verdict is never 2; it is 1 exactly when the
+-- sheet is true, and 0 exactly when it is false.
+use Prim.Native.Nat.{ℕ, zero, suc, _≤_, _<_}
+use mathlib.Core.Path.{_≡_, refl, sym, _∙_, ap, ap₂, subst}
+use mathlib.Core.Logic.{_⊎_, inl, inr, _↔_}
+use mathlib.Core.Bool.{Bool, true, false, _&&_}
+use mathlib.Core.List.{List, [], _∷_}
+use native.Mathlib.Omega.{arith}
+use lib.IntN.{ℤ}
+use lib.ListN.{take}
+use Rattle.reading.specs.Limits.{variables, lastVariable, sheetLevels}
+use Rattle.reading.specs.Formula.{Comparison, Formula, Formulas, atom, not, list, quant, window, none, more, Free}
+use Rattle.reading.specs.Records.{pick}
+use Rattle.exact.specs.Numbers.{at, isZero}
+use Rattle.exact.specs.Atoms.{Came, holds, zeros, settled, nowhere, atomAt}
+use Rattle.exact.proofs.Atoms.{settled-sure}
+use Rattle.elimination.specs.Pushing.{flip, push}
+use Rattle.elimination.specs.Lists.{Known, known, sureRecord, decidedBy, keep, stay, closed, listed}
+use Rattle.elimination.specs.Copies.{atomBy, copy, copyAll}
+use Rattle.elimination.specs.Steps.{quantifiers}
+use Rattle.elimination.specs.Eliminate.{Result, verdictBy, finished, eliminate}
+use Rattle.elimination.specs.Meaning.{Values, Means}
+use Rattle.elimination.specs.Variables.{FreeIn, Closed}
+use Rattle.elimination.proofs.Truth.{Rows, AllRows, fits-named}
+use Rattle.elimination.proofs.OneStep.{steps}
+use Rattle.elimination.proofs.Keeping.{steps-free, result}
+use Rattle.elimination.proofs.Answering.{Eliminated}
+use Rattle.elimination.proofs.Demand3.{result-means}
+use Rattle.elimination.proofs.Variables.{Without, Or, Absent, absent-or-free, push-rows, steps-absent}
+
+-- a formula is the true or the false record
+abbrev pub Sure : Formula → Type 0
+Sure f = (b : Bool) × (f ≡ sureRecord b)
+
+abbrev AllSure : Formulas → Type 0
+AllSure none = Unit {0}
+AllSure (more f fs) = Sure f × AllSure fs
+
+-- ---- atoms
+
+all-zeros : (n : ℕ) (ns : List ℤ) → ((v : ℕ) → v < n → Without v ns) → zeros (take n ns) ≡ true
+unfolding zeros
+all-zeros zero ns h = refl
+all-zeros (suc n) [] h = refl
+all-zeros (suc n) (z ∷ ns) h = ap₂ _&&_ (ap isZero (h 0 (omega arith))) (all-zeros n ns (λ v k. h (suc v) (omega arith)))
+
+atom-sure : (c : Comparison) (ns : List ℤ) → ((v : ℕ) → v ≤ lastVariable → Without v ns) → Sure (atomBy (settled c ns) c)
+atom-sure c ns h = (holds c (at ns 8), ap (λ (r : Came). atomBy r c) (settled-sure c ns (all-zeros variables ns (λ v k. h v (omega arith)))))
+
+-- ---- lists
+
+stay-none : (fs : Formulas) → AllSure fs → stay fs ≡ none
+stay-none none h = refl
+stay-none (more f fs) h = ap (λ (k : Known). keep k f (stay fs)) (ap known (h .0 .1)) ∙ stay-none fs (h .1)
+
+listed-sure : (all : Bool) (fs : Formulas) → AllSure fs → Sure (listed all fs)
+unfolding listed
+listed-sure all fs h = go (decidedBy all fs) (stay fs) (stay-none fs h)
+  where
+    go : (b : Bool) (left : Formulas) → left ≡ none → Sure (pick b (sureRecord (flip all)) (closed all left))
+    go true left e = (flip all, refl)
+    go false left e = (all, ap (closed all) e)
+
+-- ---- the finishing pass over atoms and lists without variables
+
+or-not : (A : Type 0) → ⊥ ⊎ A → A
+or-not A (inl e) = absurd e
+or-not A (inr a) = a
+
+mutual
+  unfolding copy atomAt
+
+  copy-sure : (f : Formula) → ((v : ℕ) → v ≤ lastVariable → Rows (Or ⊥ v) f) → Sure (copy nowhere f)
+  copy-sure (atom c ns) h = atom-sure c ns (λ v l. or-not (Without v ns) (h v l))
+  copy-sure (not f) h = absurd (h 0 (omega arith))
+  copy-sure (list b fs) h = listed-sure b (copyAll nowhere fs) (copy-all-sure fs h)
+  copy-sure (quant b u f) h = absurd (h 0 (omega arith))
+  copy-sure (window u lo hi) h = absurd (h 0 (omega arith))
+
+  copy-all-sure : (fs : Formulas) → ((v : ℕ) → v ≤ lastVariable → AllRows (Or ⊥ v) fs) → AllSure (copyAll nowhere fs)
+  copy-all-sure none h = tt
+  copy-all-sure (more f fs) h = (copy-sure f (λ v l. h v l .0), copy-all-sure fs (λ v l. h v l .1))
+
+finished-sure : (f : Formula) → Free f → ((v : ℕ) → v ≤ lastVariable → Absent v f) → Sure (finished f)
+unfolding finished
+finished-sure f q h = copy-sure (push false f) (λ v l. push-rows ⊥ v l false f q (inr (h v l)))
+
+-- ---- a closed sheet
+
+closed-absent : (f : Formula) → Closed f → (v : ℕ) → v ≤ lastVariable → Absent v f
+closed-absent f h v l = go (absent-or-free v f)
+  where
+    go : Absent v f ⊎ FreeIn v f → Absent v f
+    go (inl a) = a
+    go (inr k) = absurd (h v l k)
+
+pub closed-sure : (f : Formula) → Closed f → Sure (result f)
+unfolding result
+closed-sure f h = finished-sure (steps (quantifiers f) f) (steps-free (quantifiers f) f refl) (λ v l. steps-absent (quantifiers f) v f l (closed-absent f h v l))
+
+-- the true record's verdict is 1, the false record's 0
+sure-verdict : (b : Bool) → verdictBy (known (sureRecord b)) ≡ pick b 1 0
+sure-verdict true = refl
+sure-verdict false = refl
+
+module _ (sheet out work : List ℕ) (e : Eliminated sheet out work) (shut : Closed (e .formula)) where
+  abbrev verdict : ℕ
+  verdict = eliminate sheet out work .verdict
+
+  verdict-is : (b : Bool) → result (e .formula) ≡ sureRecord b → verdict ≡ pick b 1 0
+  verdict-is b i = ap (λ (r : Result). r .verdict) (e .answer) ∙ ap (λ (g : Formula). verdictBy (known g)) i ∙ sure-verdict b
+
+  -- the verdict is 1 or 0, never 2
+  pub closed-decided : (b : Bool) × (verdict ≡ pick b 1 0)
+  closed-decided = (closed-sure (e .formula) shut .0, verdict-is _ (closed-sure (e .formula) shut .1))
+
+  -- 1 exactly when the sheet is true, 0 exactly when it is false
+  pub closed-verdict : (ρ : Values) → ((verdict ≡ 1) ↔ Means (e .formula) ρ) × ((verdict ≡ 0) ↔ (¬ Means (e .formula) ρ))
+  closed-verdict ρ = go (closed-sure (e .formula) shut .0) (closed-sure (e .formula) shut .1)
+    where
+      same : Means (result (e .formula)) ρ ↔ Means (e .formula) ρ
+      same = result-means (e .formula) (fits-named sheetLevels (e .formula) (e .fits)) ρ
+
+      go : (b : Bool) → result (e .formula) ≡ sureRecord b → ((verdict ≡ 1) ↔ Means (e .formula) ρ) × ((verdict ≡ 0) ↔ (¬ Means (e .formula) ρ))
+      go true i =
+          let m : Means (e .formula) ρ = same .0 (subst (λ (g : Formula). Means g ρ) (sym i) tt) in
+          let v : verdict ≡ 1 = verdict-is true i in
+          ((λ _. m, λ _. v), (λ z. absurd (omega arith), λ n. absurd (n m)))
+      go false i =
+          let n : (¬ Means (e .formula) ρ) = (λ m. subst (λ (g : Formula). Means g ρ) i (same .1 m)) in
+          let v : verdict ≡ 0 = verdict-is false i in
+          ((λ z. absurd (omega arith), λ m. absurd (n m)), (λ _. n, λ _. v))

@@ -1,0 +1,186 @@
+-- The line of the fractions, and terms as points of it: at a vector a boundary term of ten numbers is a fraction, and the midpoint of two terms
+-- lies between them. Which fraction is the greater is the sign of a cross product, so each law of the order is an equation in the ring.
+-- Assumes nothing.
+use mathlib.Core.Path.{_≡_, refl, sym, _∙_, ap, ap₂}
+use mathlib.Core.Bool.{Bool, true, false}
+use mathlib.Core.List.{List}
+use Prim.Native.Nat.{ℕ, _<_}
+use native.Mathlib.Omega.{arith}
+use lib.Dec.{lit<}
+use lib.IntN.{ℤ, pos}
+use Rattle.exact.specs.Numbers.{at}
+use Rattle.exact.specs.Terms.{midAt, midOf, midpoint}
+use Rattle.exact.proofs.Rows.{at-tab}
+use Rattle.exact.proofs.Terms.{mid-low, mid-last}
+use Rattle.elimination.specs.Meaning.{Fraction}
+use Rattle.elimination.proofs.Sealed.{_⊕_, _⊗_, ⊖, _⊝_, O, ring, sub-is, ⊗-O, ⊕-idl, one-⊗, ⊗-distr, ⊗-assoc, ⊗-comm}
+use Rattle.elimination.proofs.Signs.{Sign, minus, nil, plus, sgn, turn, sgn-⊖, sgn-nil, sgn-⊕, sgn-up, up-⊗, sgn-above, above-sgn}
+use Rattle.elimination.proofs.Sums.{dot, dot-same, dot-times, dot-plus, Multiple, reduced-multiple, dot-multiple}
+use Rattle.elimination.proofs.Line.{Line, dir}
+
+pub up : (x : Fraction) → sgn (x .bottom) ≡ plus
+up x = sgn-above (x .bottom) (x .above)
+
+abbrev pub fraction : (m e : ℤ) → sgn e ≡ plus → Fraction
+fraction m e h = record { top = m; bottom = e; above = above-sgn e h }
+
+chain : (mx ex my ey mz ez : ℤ) → ey ⊗ (mx ⊗ ez ⊝ mz ⊗ ex) ≡ ez ⊗ (mx ⊗ ey ⊝ my ⊗ ex) ⊕ ex ⊗ (my ⊗ ez ⊝ mz ⊗ ey)
+chain mx ex my ey mz ez = simp ring
+
+halfway-left : (mx ex my ey : ℤ) → mx ⊗ (ex ⊗ ey ⊕ ex ⊗ ey) ⊝ (mx ⊗ ey ⊕ my ⊗ ex) ⊗ ex ≡ ex ⊗ (mx ⊗ ey ⊝ my ⊗ ex)
+halfway-left mx ex my ey = simp ring
+
+halfway-right : (mx ex my ey : ℤ) → (mx ⊗ ey ⊕ my ⊗ ex) ⊗ ey ⊝ my ⊗ (ex ⊗ ey ⊕ ex ⊗ ey) ≡ ey ⊗ (mx ⊗ ey ⊝ my ⊗ ex)
+halfway-right mx ex my ey = simp ring
+
+abbrev pub cross : Fraction → Fraction → ℤ
+cross x y = x .top ⊗ y .bottom ⊝ y .top ⊗ x .bottom
+
+abbrev pub cmp : Fraction → Fraction → Sign
+cmp x y = sgn (cross x y)
+
+cross-swap : (x y : Fraction) → cross y x ≡ ⊖ (cross x y)
+cross-swap x y = simp ring
+
+cross-chain : (x y z : Fraction) → y .bottom ⊗ cross x z ≡ z .bottom ⊗ cross x y ⊕ x .bottom ⊗ cross y z
+cross-chain x y z = chain (x .top) (x .bottom) (y .top) (y .bottom) (z .top) (z .bottom)
+
+pub cmp-anti : (x y : Fraction) → cmp y x ≡ turn (cmp x y)
+cmp-anti x y = ap sgn (cross-swap x y) ∙ sgn-⊖ _
+
+pub cmp-trans : (x y z : Fraction) (s : Sign) → cmp x y ≡ s → cmp y z ≡ s → cmp x z ≡ s
+cmp-trans x y z s h k = sym (sgn-up (y .bottom) _ (up y)) ∙ ap sgn (cross-chain x y z)
+    ∙ sgn-⊕ _ _ (sgn-up (z .bottom) _ (up z) ∙ h) (sgn-up (x .bottom) _ (up x) ∙ k)
+
+pub cmp-level : (x y z : Fraction) → cmp x y ≡ nil → cmp x z ≡ cmp y z
+cmp-level x y z h = sym (sgn-up (y .bottom) _ (up y)) ∙ ap sgn (cross-chain x y z ∙ drop) ∙ sgn-up (x .bottom) _ (up x)
+  where
+    drop : z .bottom ⊗ cross x y ⊕ x .bottom ⊗ cross y z ≡ x .bottom ⊗ cross y z
+    drop = ap (λ (u : ℤ). z .bottom ⊗ u ⊕ x .bottom ⊗ cross y z) (sgn-nil _ h) ∙ simp (⊗-O, ⊕-idl)
+
+-- ---- terms
+
+abbrev pub Ok : List ℤ → Type 0
+Ok t = sgn (at t 9) ≡ plus
+
+abbrev by-sign : Sign → ℤ → ℤ
+by-sign minus z = pos 1
+by-sign nil z = pos 1
+by-sign plus z = z
+
+-- z where it is above 0
+pub positive : ℤ → ℤ
+positive z = by-sign (sgn z) z
+
+by-sign-up : (s : Sign) (z : ℤ) → sgn z ≡ s → sgn (by-sign s z) ≡ plus
+unfolding sgn
+by-sign-up minus z e = refl
+by-sign-up nil z e = refl
+by-sign-up plus z e = e
+
+pub positive-up : (z : ℤ) → sgn (positive z) ≡ plus
+unfolding positive
+positive-up z = by-sign-up (sgn z) z refl
+
+pub positive-is : (z : ℤ) → sgn z ≡ plus → positive z ≡ z
+unfolding positive
+positive-is z e = ap (λ (s : Sign). by-sign s z) e
+
+-- a term at a vector
+abbrev pub ev : (ℕ → ℤ) → List ℤ → Fraction
+ev w t = record { top = dot (at t) w; bottom = positive (at t 9); above = above-sgn (positive (at t 9)) (positive-up (at t 9)) }
+
+cross-multiple : (m e g t d : ℤ) → m ⊗ (g ⊗ d) ⊝ (g ⊗ t) ⊗ e ≡ g ⊗ (m ⊗ d ⊝ t ⊗ e)
+cross-multiple m e g t d = simp ring
+
+pub ok-multiple : (s t : List ℤ) → Multiple s t → Ok t → Ok s
+ok-multiple s t k h = sym (sgn-up (k .by) (at s 9) (k .by-up)) ∙ ap sgn (sym (k .at-is 9)) ∙ h
+
+pub cmp-ok : (w : ℕ → ℤ) (t : List ℤ) (x : Fraction) → Ok t → cmp x (ev w t) ≡ sgn (x .top ⊗ at t 9 ⊝ dot (at t) w ⊗ x .bottom)
+cmp-ok w t x h = ap (λ (d : ℤ). sgn (x .top ⊗ d ⊝ dot (at t) w ⊗ x .bottom)) (positive-is (at t 9) h)
+
+pub cmp-multiple : (w : ℕ → ℤ) (s t : List ℤ) (x : Fraction) → Multiple s t → Ok t → cmp x (ev w t) ≡ cmp x (ev w s)
+cmp-multiple w s t x k h =
+    cmp-ok w t x h ∙ ap₂ (λ (d n : ℤ). sgn (x .top ⊗ d ⊝ n ⊗ x .bottom)) (k .at-is 9) (dot-multiple s t w k)
+    ∙ ap sgn (cross-multiple (x .top) (x .bottom) (k .by) (dot (at s) w) (at s 9)) ∙ sgn-up (k .by) _ (k .by-up) ∙ sym (cmp-ok w s x (ok-multiple s t k h))
+
+cmp-multiple-l : (w : ℕ → ℤ) (s t : List ℤ) (x : Fraction) → Multiple s t → Ok t → cmp (ev w s) x ≡ cmp (ev w t) x
+cmp-multiple-l w s t x k h = cmp-anti x (ev w s) ∙ ap turn (sym (cmp-multiple w s t x k h)) ∙ sym (cmp-anti x (ev w t))
+
+-- ---- the midpoint of two terms, before it is reduced and after
+
+twice : (z : ℤ) → pos 2 ⊗ z ≡ z ⊕ z
+unfolding _⊕_
+twice z = ap (λ (k : ℤ). k ⊗ z) two ∙ ⊗-distr (pos 1) (pos 1) z ∙ ap₂ _⊕_ (one-⊗ z) (one-⊗ z)
+  where
+    two : pos 2 ≡ pos 1 ⊕ pos 1
+    two = refl
+
+mid-bottom : (a b : List ℤ) → at (midOf a b) 9 ≡ at a 9 ⊗ at b 9 ⊕ at a 9 ⊗ at b 9
+unfolding midOf _⊗_
+mid-bottom a b = at-tab 10 (midAt a b) 9 (lit< tt) ∙ sym (mid-last a b) ∙ ⊗-assoc (pos 2) (at a 9) (at b 9) ∙ twice (at a 9 ⊗ at b 9)
+
+mid-at : (a b : List ℤ) (i : ℕ) → i < 9 → at (midOf a b) i ≡ at b 9 ⊗ at a i ⊕ at a 9 ⊗ at b i
+unfolding midOf _⊗_ _⊕_
+mid-at a b i h = at-tab 10 (midAt a b) i (omega arith) ∙ sym (mid-low a b i h) ∙ ap₂ _⊕_ (⊗-comm (at a i) (at b 9)) (⊗-comm (at b i) (at a 9))
+
+dot-mid : (w : ℕ → ℤ) (a b : List ℤ) → dot (at (midOf a b)) w ≡ dot (at a) w ⊗ at b 9 ⊕ dot (at b) w ⊗ at a 9
+dot-mid w a b =
+    dot-same (at (midOf a b)) (λ i. at b 9 ⊗ at a i ⊕ at a 9 ⊗ at b i) w (mid-at a b) ∙ dot-plus (λ i. at b 9 ⊗ at a i) (λ i. at a 9 ⊗ at b i) w
+    ∙ ap₂ _⊕_ (dot-times (at b 9) (at a) w ∙ ⊗-comm _ _) (dot-times (at a 9) (at b) w ∙ ⊗-comm _ _)
+
+mid-ok : (a b : List ℤ) → Ok a → Ok b → Ok (midOf a b)
+mid-ok a b h k = ap sgn (mid-bottom a b) ∙ sgn-⊕ _ _ (up-⊗ (at a 9) (at b 9) h k) (up-⊗ (at a 9) (at b 9) h k)
+
+mid-left : (w : ℕ → ℤ) (a b : List ℤ) → Ok a → Ok b → cmp (ev w a) (ev w (midOf a b)) ≡ cmp (ev w a) (ev w b)
+mid-left w a b h k =
+    cmp-ok w (midOf a b) (ev w a) (mid-ok a b h k)
+    ∙ ap (λ (d : ℤ). sgn (dot (at a) w ⊗ d ⊝ dot (at (midOf a b)) w ⊗ positive (at a 9))) (mid-bottom a b)
+    ∙ ap₂ (λ (u e : ℤ). sgn (dot (at a) w ⊗ (at a 9 ⊗ at b 9 ⊕ at a 9 ⊗ at b 9) ⊝ u ⊗ e)) (dot-mid w a b) (positive-is (at a 9) h)
+    ∙ ap sgn (halfway-left (dot (at a) w) (at a 9) (dot (at b) w) (at b 9)) ∙ sgn-up (at a 9) _ h
+    ∙ ap (λ (e : ℤ). sgn (dot (at a) w ⊗ at b 9 ⊝ dot (at b) w ⊗ e)) (sym (positive-is (at a 9) h)) ∙ sym (cmp-ok w b (ev w a) k)
+
+mid-right : (w : ℕ → ℤ) (a b : List ℤ) → Ok a → Ok b → cmp (ev w (midOf a b)) (ev w b) ≡ cmp (ev w a) (ev w b)
+mid-right w a b h k =
+    cmp-ok w b (ev w (midOf a b)) k
+    ∙ ap₂ (λ (u e : ℤ). sgn (u ⊗ at b 9 ⊝ dot (at b) w ⊗ e)) (dot-mid w a b) (positive-is (at (midOf a b) 9) (mid-ok a b h k) ∙ mid-bottom a b)
+    ∙ ap sgn (halfway-right (dot (at a) w) (at a 9) (dot (at b) w) (at b 9)) ∙ sgn-up (at b 9) _ k
+    ∙ ap (λ (e : ℤ). sgn (dot (at a) w ⊗ at b 9 ⊝ dot (at b) w ⊗ e)) (sym (positive-is (at a 9) h)) ∙ sym (cmp-ok w b (ev w a) k)
+
+midpoint-multiple : (a b : List ℤ) → Multiple (midpoint a b) (midOf a b)
+unfolding midpoint
+midpoint-multiple a b = reduced-multiple (midOf a b)
+
+pub midpoint-ok : (a b : List ℤ) → Ok a → Ok b → Ok (midpoint a b)
+midpoint-ok a b h k = ok-multiple (midpoint a b) (midOf a b) (midpoint-multiple a b) (mid-ok a b h k)
+
+origin : Fraction
+origin = record { top = O; bottom = pos 1; above = record { lt = tt } }
+
+away : Bool → Fraction → Fraction
+away true x = record { top = x .top ⊝ x .bottom; bottom = x .bottom; above = x .above }
+away false x = record { top = x .top ⊕ x .bottom; bottom = x .bottom; above = x .above }
+
+away-l : (m e : ℤ) → (m ⊝ e) ⊗ e ⊝ m ⊗ e ≡ ⊖ (e ⊗ e)
+away-l m e = simp ring
+
+away-r : (m e : ℤ) → (m ⊕ e) ⊗ e ⊝ m ⊗ e ≡ e ⊗ e
+away-r m e = sub-is _ _ _ (simp ring)
+
+away-is : (d : Bool) (x : Fraction) → cmp (away d x) x ≡ dir d
+unfolding away
+away-is true x = ap sgn (away-l (x .top) (x .bottom)) ∙ sgn-⊖ _ ∙ ap turn (up-⊗ (x .bottom) (x .bottom) (up x) (up x))
+away-is false x = ap sgn (away-r (x .top) (x .bottom)) ∙ up-⊗ (x .bottom) (x .bottom) (up x) (up x)
+
+-- the fractions, with the reduced midpoints of terms
+pub line : (w : ℕ → ℤ) → Line Fraction (List ℤ) cmp (ev w) Ok midpoint
+line w = record {
+  anti = cmp-anti;
+  trans = cmp-trans;
+  level = cmp-level;
+  mid-l = λ a b h k. sym (cmp-multiple w (midpoint a b) (midOf a b) (ev w a) (midpoint-multiple a b) (mid-ok a b h k)) ∙ mid-left w a b h k;
+  mid-r = λ a b h k. cmp-multiple-l w (midpoint a b) (midOf a b) (ev w b) (midpoint-multiple a b) (mid-ok a b h k) ∙ mid-right w a b h k;
+  some = origin;
+  far = away;
+  far-is = away-is;
+}

@@ -1,0 +1,267 @@
+-- Values and vectors: eight fractions have a common denominator, and a formula means at the values what it says at the vector of their numerators over
+-- it. So the meaning at fractions is carried by whole numbers, and fractions that are equal give the same truth. Assumes nothing.
+use mathlib.Core.Path.{_≡_, refl, sym, _∙_, ap, ap₂, subst}
+use mathlib.Core.Logic.{_↔_}
+use mathlib.Core.Bool.{Bool, true, false, cond, _&&_}
+use mathlib.Core.List.{List}
+use Prim.Native.Nat.{ℕ, zero, suc, _<_, _≤_}
+use native.Mathlib.Omega.{arith}
+use lib.Dec.{T, eqb, leb·suc-zero, lit≤}
+use lib.IntN.{ℤ, pos, negsuc, _-ℤ_, _*ℤ_}
+use lib.Signed.{_≤ℤ_, leZ}
+use borrow.Author.Tests.{eqb-true, eqb-false}
+use Rattle.reading.specs.Formula.{Comparison, less, atmost, equal, Formula, Formulas, atom, not, list, quant, window, none, more}
+use Rattle.reading.specs.Records.{pick}
+use Rattle.exact.specs.Numbers.{at}
+use Rattle.exact.proofs.Sign.{NonNeg, nn-le, le-nn}
+use Rattle.elimination.specs.Testing.{join, sumTo, trueAt, allTrueAt}
+use Rattle.elimination.specs.Pushing.{flip}
+use Rattle.elimination.specs.Meaning.{Fraction, Values, put, sumOf, Compares, Means, MeansAll}
+use Rattle.elimination.proofs.Sealed.{_⊕_, _⊗_, ⊖, _⊝_, O, ring, ⊗-comm, ⊕-comm, ⊕-invr, ⊕-idl}
+use Rattle.elimination.proofs.Signs.{Sign, nil, plus, sgn, sgn-O, turn, sgn-⊖, sgn-up, sgn-nil, up-⊗, test, holds-test}
+use Rattle.elimination.proofs.Sums.{total, total-sum, total-last, dot, upd}
+use Rattle.elimination.proofs.Fractions.{up, fraction}
+use Rattle.elimination.proofs.Truth.{Named, AllNamed, lower, upper, Holds, AllHold, truth, truths, iff-same, iff-trans, not-iff, both-iff, over-iff, T-same}
+use Rattle.elimination.proofs.Keeping.{upd-last}
+
+-- ---- comparisons and orders as tests of a sign
+
+compares-test : (c : Comparison) (z : ℤ) → Compares c z ↔ T (test c (sgn z))
+unfolding sgn
+compares-test less (pos zero) = (λ h. h .lt, λ h. absurd h)
+compares-test less (pos (suc n)) = (λ h. rw (leb·suc-zero (suc n)) at (h .lt), λ h. absurd h)
+compares-test less (negsuc n) = (λ h. tt, λ h. record { lt = tt })
+compares-test atmost (pos zero) = (λ h. tt, λ h. record { le = tt })
+compares-test atmost (pos (suc n)) = (λ h. rw (leb·suc-zero n) at (h .le), λ h. absurd h)
+compares-test atmost (negsuc n) = (λ h. tt, λ h. record { le = tt })
+compares-test equal (pos zero) = (λ h. tt, λ h. refl)
+compares-test equal (pos (suc n)) = (λ h. subst T (ap (λ (z : ℤ). test equal (sgn z)) (sym h)) tt, λ h. absurd h)
+compares-test equal (negsuc n) = (λ h. subst T (ap (λ (z : ℤ). test equal (sgn z)) (sym h)) tt, λ h. absurd h)
+
+nonneg-sgn : (n : ℕ) → T (test atmost (turn (sgn (pos n))))
+unfolding sgn
+nonneg-sgn zero = tt
+nonneg-sgn (suc n) = tt
+
+sgn-nonneg : (z : ℤ) → T (test atmost (turn (sgn z))) → NonNeg z
+unfolding sgn
+sgn-nonneg (pos n) t = record { n = n; is = refl }
+sgn-nonneg (negsuc n) t = absurd t
+
+swap : (a b : ℤ) → a ⊝ b ≡ ⊖ (b ⊝ a)
+swap a b = simp ring
+
+le-swap : (a b : ℤ) → sgn (a ⊝ b) ≡ turn (sgn (b -ℤ a))
+unfolding _⊕_ ⊖
+le-swap a b = ap sgn (swap a b) ∙ sgn-⊖ (b ⊝ a)
+
+le-test : (a b : ℤ) → (a ≤ℤ b) ↔ T (test atmost (sgn (a ⊝ b)))
+le-test a b = (
+  λ h. let m = nn-le h in subst (λ (s : Sign). T (test atmost s)) (sym (le-swap a b ∙ ap (λ (z : ℤ). turn (sgn z)) (m .is))) (nonneg-sgn (m .n)),
+  λ t. le-nn (sgn-nonneg (b -ℤ a) (subst (λ (s : Sign). T (test atmost s)) (le-swap a b) t)),
+)
+
+-- ---- a vector for the values
+
+-- numerators over the denominator at 8, which is above 0
+pub record Represents (ρ : Values) (w : ℕ → ℤ) : Type 0 where
+  pub base : sgn (w 8) ≡ plus
+  pub same : (v : ℕ) → v < 8 → ρ v .top ⊗ w 8 ≡ w v ⊗ ρ v .bottom
+
+sum-step : (N D z n d q p k t : ℤ) → N ⊗ q ≡ (k ⊕ t) ⊗ D → n ⊗ q ≡ p ⊗ d → (N ⊗ d ⊕ (z ⊗ n) ⊗ D) ⊗ q ≡ (k ⊕ (t ⊕ z ⊗ p)) ⊗ (D ⊗ d)
+sum-step N D z n d q p k t h i = first ∙ ap₂ (λ (x y : ℤ). x ⊗ d ⊕ (z ⊗ y) ⊗ D) h i ∙ second
+  where
+    first : (N ⊗ d ⊕ (z ⊗ n) ⊗ D) ⊗ q ≡ (N ⊗ q) ⊗ d ⊕ (z ⊗ (n ⊗ q)) ⊗ D
+    first = simp ring
+
+    second : ((k ⊕ t) ⊗ D) ⊗ d ⊕ (z ⊗ (p ⊗ d)) ⊗ D ≡ (k ⊕ (t ⊕ z ⊗ p)) ⊗ (D ⊗ d)
+    second = simp ring
+
+sum-none : (k : ℤ) → k ≡ (k ⊕ O) ⊗ pos 1
+sum-none k = simp ring
+
+module _ (ns : List ℤ) (ρ : Values) (w : ℕ → ℤ) (r : Represents ρ w) where
+  sum-up : (n : ℕ) → sgn (sumOf n ns ρ .bottom) ≡ plus
+  unfolding sumOf sgn _⊗_
+  sum-up zero = refl
+  sum-up (suc n) = up-⊗ (sumOf n ns ρ .bottom) (ρ n .bottom) (sum-up n) (up (ρ n))
+
+  sum-is : (n : ℕ) → n ≤ 8 → sumOf n ns ρ .top ⊗ w 8 ≡ (at ns 8 ⊗ w 8 ⊕ total n (λ i. at ns i ⊗ w i)) ⊗ sumOf n ns ρ .bottom
+  unfolding sumOf total _⊕_ _⊗_
+  sum-is zero h = sum-none (at ns 8 ⊗ w 8)
+  sum-is (suc n) h =
+      sum-step (sumOf n ns ρ .top) (sumOf n ns ρ .bottom) (at ns n) (ρ n .top) (ρ n .bottom) (w 8) (w n) (at ns 8 ⊗ w 8) (total n (λ i. at ns i ⊗ w i))
+      (sum-is n (omega arith)) (r .same n (omega arith))
+      ∙ ap (λ (z : ℤ). (at ns 8 ⊗ w 8 ⊕ z) ⊗ (sumOf n ns ρ .bottom ⊗ ρ n .bottom)) (sym (total-last n (λ i. at ns i ⊗ w i)))
+
+  sum-sgn : sgn (sumOf 8 ns ρ .top) ≡ sgn (dot (at ns) w)
+  unfolding dot
+  sum-sgn =
+      sym (sgn-up (w 8) _ (r .base)) ∙ ap sgn (⊗-comm _ _ ∙ sum-is 8 (lit≤ tt) ∙ ⊗-comm _ _) ∙ sgn-up (sumOf 8 ns ρ .bottom) _ (sum-up 8)
+      ∙ ap sgn (⊕-comm _ _ ∙ sym (total-last 8 (λ i. at ns i ⊗ w i)))
+
+low-cross : (lo q p d n : ℤ) → n ⊗ q ≡ p ⊗ d → d ⊗ (lo ⊗ q ⊝ p) ≡ q ⊗ (lo ⊗ d ⊝ n)
+low-cross lo q p d n h = first ∙ ap (λ (x : ℤ). (lo ⊗ q) ⊗ d ⊝ x) (sym h) ∙ second
+  where
+    first : d ⊗ (lo ⊗ q ⊝ p) ≡ (lo ⊗ q) ⊗ d ⊝ p ⊗ d
+    first = simp ring
+
+    second : (lo ⊗ q) ⊗ d ⊝ n ⊗ q ≡ q ⊗ (lo ⊗ d ⊝ n)
+    second = simp ring
+
+lower-sgn : (v : ℕ) (lo : ℤ) (ρ : Values) (w : ℕ → ℤ) → v < 8 → Represents ρ w → sgn (lo ⊗ ρ v .bottom ⊝ ρ v .top) ≡ sgn (lower v lo w)
+lower-sgn v lo ρ w h r =
+    sym (sgn-up (w 8) _ (r .base)) ∙ ap sgn (sym (low-cross lo (w 8) (w v) (ρ v .bottom) (ρ v .top) (r .same v h))) ∙ sgn-up (ρ v .bottom) _ (up (ρ v))
+
+upper-sgn : (v : ℕ) (hi : ℤ) (ρ : Values) (w : ℕ → ℤ) → v < 8 → Represents ρ w → sgn (ρ v .top ⊝ hi ⊗ ρ v .bottom) ≡ sgn (upper v hi w)
+upper-sgn v hi ρ w h r =
+    ap sgn (swap (ρ v .top) (hi ⊗ ρ v .bottom)) ∙ sgn-⊖ _ ∙ ap turn (lower-sgn v hi ρ w h r) ∙ sym (ap sgn (swap (w v) (hi ⊗ w 8)) ∙ sgn-⊖ _)
+
+window-iff : (v : ℕ) (lo hi : ℤ) (ρ : Values) (w : ℕ → ℤ) → v < 8 → Represents ρ w → Means (window v lo hi) ρ ↔ Holds (window v lo hi) w
+unfolding _⊗_
+window-iff v lo hi ρ w h r = both-iff true
+    (iff-trans (le-test (lo ⊗ ρ v .bottom) (ρ v .top)) (T-same (ap (test atmost) (lower-sgn v lo ρ w h r))))
+    (iff-trans (le-test (ρ v .top) (hi ⊗ ρ v .bottom)) (T-same (ap (test atmost) (upper-sgn v hi ρ w h r))))
+
+-- ---- putting a value on both sides
+
+put-here : (n q e : ℤ) → n ⊗ (e ⊗ q) ≡ (n ⊗ q) ⊗ e
+put-here n q e = simp ring
+
+put-else : (n q e p d : ℤ) → n ⊗ q ≡ p ⊗ d → n ⊗ (e ⊗ q) ≡ (e ⊗ p) ⊗ d
+put-else n q e p d h = first ∙ ap (λ (x : ℤ). e ⊗ x) h ∙ second
+  where
+    first : n ⊗ (e ⊗ q) ≡ e ⊗ (n ⊗ q)
+    first = simp ring
+
+    second : e ⊗ (p ⊗ d) ≡ (e ⊗ p) ⊗ d
+    second = simp ring
+
+put-both : (v : ℕ) (x : Fraction) (m e : ℤ) (ρ : Values) (w : ℕ → ℤ) → v < 8 → sgn e ≡ plus → Represents ρ w → x .top ⊗ (e ⊗ w 8) ≡ m ⊗ x .bottom
+    → Represents (put v x ρ) (upd v m e w)
+put-both v x m e ρ w l o r h = record {
+  base = ap sgn (upd-last v m e w l) ∙ up-⊗ e (w 8) o (r .base);
+  same = λ u k. ap (λ (z : ℤ). put v x ρ u .top ⊗ z) (upd-last v m e w l) ∙ go u k (eqb u v);
+}
+  where
+    go : (u : ℕ) → u < 8 → (b : Bool) → pick b x (ρ u) .top ⊗ (e ⊗ w 8) ≡ cond b m (e ⊗ w u) ⊗ pick b x (ρ u) .bottom
+    go u k true = h
+    go u k false = put-else _ (w 8) e _ _ (r .same u k)
+
+-- the value x at the vector w is x.top · q / x.bottom, where q is the denominator; the point p there has the value p.top / (p.bottom · q)
+abbrev scaled : Fraction → ℤ → Fraction
+scaled x q = record { top = x .top ⊗ q; bottom = x .bottom; above = x .above }
+
+abbrev unscaled : Fraction → (q : ℤ) → sgn q ≡ plus → Fraction
+unscaled p q h = fraction (p .top) (p .bottom ⊗ q) (up-⊗ (p .bottom) q (up p) h)
+
+mutual
+  pub same-meaning : (f : Formula) (ρ : Values) (w : ℕ → ℤ) → Named f → Represents ρ w → Means f ρ ↔ Holds f w
+  same-meaning (atom c ns) ρ w n r = iff-trans (compares-test c (sumOf 8 ns ρ .top)) (T-same (ap (test c) (sum-sgn ns ρ w r)))
+  same-meaning (not f) ρ w n r = not-iff (same-meaning f ρ w n r)
+  same-meaning (list b fs) ρ w n r = same-meanings b fs ρ w n r
+  same-meaning (quant b v f) ρ w n r = over-iff b
+      (λ x. (scaled x (w 8), same-meaning f _ _ (n .1) (put-both v x (x .top ⊗ w 8) (x .bottom) ρ w (n .0) (up x) r (put-here (x .top) (w 8) (x .bottom)))))
+      (λ p. (unscaled p (w 8) (r .base), same-meaning f _ _ (n .1) (put-both v (unscaled p (w 8) (r .base)) (p .top) (p .bottom) ρ w (n .0) (up p) r refl)))
+  same-meaning (window v lo hi) ρ w n r = window-iff v lo hi ρ w n r
+
+  same-meanings : (b : Bool) (fs : Formulas) (ρ : Values) (w : ℕ → ℤ) → AllNamed fs → Represents ρ w → MeansAll b fs ρ ↔ AllHold b fs w
+  same-meanings b none ρ w n r = iff-same
+  same-meanings b (more f fs) ρ w n r = both-iff b (same-meaning f ρ w (n .0) r) (same-meanings b fs ρ w (n .1) r)
+
+-- ---- a common denominator of the first n values
+
+unfoldable pub commonTo : ℕ → Values → ℕ → ℤ
+commonTo zero ρ = λ i. cond (eqb i 8) (pos 1) O
+commonTo (suc n) ρ = upd n (ρ n .top ⊗ commonTo n ρ 8) (ρ n .bottom) (commonTo n ρ)
+
+common-up : (n : ℕ) (ρ : Values) → n ≤ 8 → sgn (commonTo n ρ 8) ≡ plus
+unfolding commonTo sgn
+common-up zero ρ h = refl
+common-up (suc n) ρ h = ap sgn (upd-last n _ (ρ n .bottom) (commonTo n ρ) (omega arith)) ∙ up-⊗ (ρ n .bottom) (commonTo n ρ 8) (up (ρ n)) (common-up n ρ (omega arith))
+
+common-step : (n : ℕ) (ρ : Values) (w : ℕ → ℤ) → ((v : ℕ) → v < n → ρ v .top ⊗ w 8 ≡ w v ⊗ ρ v .bottom)
+    → (v : ℕ) → v < suc n → (b : Bool) → eqb v n ≡ b → ρ v .top ⊗ (ρ n .bottom ⊗ w 8) ≡ cond b (ρ n .top ⊗ w 8) (ρ n .bottom ⊗ w v) ⊗ ρ v .bottom
+common-step n ρ w r v h true e = subst (λ (m : ℕ). ρ v .top ⊗ (ρ m .bottom ⊗ w 8) ≡ (ρ m .top ⊗ w 8) ⊗ ρ v .bottom) (eqb-true v n e) (put-here (ρ v .top) (w 8) (ρ v .bottom))
+common-step n ρ w r v h false e = put-else _ (w 8) (ρ n .bottom) _ _ (r v (omega (arith, eqb-false v n e)))
+
+common-same : (n : ℕ) (ρ : Values) → n ≤ 8 → (v : ℕ) → v < n → ρ v .top ⊗ commonTo n ρ 8 ≡ commonTo n ρ v ⊗ ρ v .bottom
+unfolding commonTo
+common-same zero ρ h v k = absurd (omega arith)
+common-same (suc n) ρ h v k =
+    ap (λ (z : ℤ). ρ v .top ⊗ z) (upd-last n _ (ρ n .bottom) (commonTo n ρ) (omega arith))
+    ∙ common-step n ρ (commonTo n ρ) (λ v k. common-same n ρ (omega arith) v k) v k (eqb v n) refl
+
+abbrev pub common : Values → ℕ → ℤ
+common ρ = commonTo 8 ρ
+
+pub common-represents : (ρ : Values) → Represents ρ (common ρ)
+common-represents ρ = record { base = common-up 8 ρ (lit≤ tt); same = common-same 8 ρ (lit≤ tt) }
+
+-- ---- equal fractions
+
+-- pairwise, for the eight variables
+abbrev pub Equal : Values → Values → Type 0
+Equal ρ σ = (v : ℕ) → v < 8 → ρ v .top *ℤ σ v .bottom ≡ σ v .top *ℤ ρ v .bottom
+
+cancel-up : (k a b : ℤ) → sgn k ≡ plus → k ⊗ a ≡ k ⊗ b → a ≡ b
+cancel-up k a b h e = back ∙ ap (λ (x : ℤ). x ⊕ b) (sgn-nil (a ⊝ b) none-left) ∙ ⊕-idl b
+  where
+    back : a ≡ (a ⊝ b) ⊕ b
+    back = simp ring
+
+    spread : k ⊗ (a ⊝ b) ≡ k ⊗ a ⊝ k ⊗ b
+    spread = simp ring
+
+    none-left : sgn (a ⊝ b) ≡ nil
+    none-left = sym (sgn-up k (a ⊝ b) h) ∙ ap sgn (spread ∙ ap (λ (x : ℤ). x ⊝ k ⊗ b) e ∙ ⊕-invr (k ⊗ b)) ∙ sgn-O
+
+equal-step : (n d n' d' q p : ℤ) → sgn d ≡ plus → n ⊗ d' ≡ n' ⊗ d → n ⊗ q ≡ p ⊗ d → n' ⊗ q ≡ p ⊗ d'
+equal-step n d n' d' q p h e r = cancel-up d _ _ h (first ∙ ap (λ (x : ℤ). x ⊗ q) (sym e) ∙ second ∙ ap (λ (x : ℤ). x ⊗ d') r ∙ third)
+  where
+    first : d ⊗ (n' ⊗ q) ≡ (n' ⊗ d) ⊗ q
+    first = simp ring
+
+    second : (n ⊗ d') ⊗ q ≡ (n ⊗ q) ⊗ d'
+    second = simp ring
+
+    third : (p ⊗ d) ⊗ d' ≡ d ⊗ (p ⊗ d')
+    third = simp ring
+
+pub equal-represents : (ρ σ : Values) (w : ℕ → ℤ) → Equal ρ σ → Represents ρ w → Represents σ w
+unfolding _⊗_
+equal-represents ρ σ w e r = record { base = r .base; same = λ v h. equal-step (ρ v .top) (ρ v .bottom) (σ v .top) (σ v .bottom) (w 8) (w v) (up (ρ v)) (e v h) (r .same v h) }
+
+-- ---- the test: nine numbers are a vector as they stand
+
+bool-same : (a b : Bool) → T a ↔ T b → a ≡ b
+bool-same true true h = refl
+bool-same true false h = absurd (h .0 tt)
+bool-same false true h = absurd (h .1 tt)
+bool-same false false h = refl
+
+leZ-test : (a b : ℤ) → leZ a b ≡ test atmost (sgn (a ⊝ b))
+leZ-test a b = bool-same (leZ a b) _ (iff-trans (λ t. record { le = t }, λ h. h .le) (le-test a b))
+
+and-join : (a b : Bool) → a && b ≡ join true a b
+and-join true b = refl
+and-join false b = refl
+
+sum-dot : (ns w : List ℤ) → sumTo 9 (λ i. at ns i ⊗ at w i) ≡ dot (at ns) (at w)
+unfolding dot
+sum-dot ns w = total-sum 9 (λ i. at ns i ⊗ at w i)
+
+mutual
+  unfolding trueAt _⊗_
+
+  pub trueAt-truth : (w : List ℤ) (f : Formula) → trueAt w f ≡ truth f (at w)
+  trueAt-truth w (atom c ns) = holds-test c _ ∙ ap (λ (z : ℤ). test c (sgn z)) (sum-dot ns w)
+  trueAt-truth w (not f) = ap flip (trueAt-truth w f)
+  trueAt-truth w (list b fs) = allTrueAt-truth b w fs
+  trueAt-truth w (quant b v f) = refl
+  trueAt-truth w (window v lo hi) = ap₂ (λ (a b : Bool). a && b) (leZ-test (lo ⊗ at w 8) (at w v)) (leZ-test (at w v) (hi ⊗ at w 8))
+      ∙ and-join (test atmost (sgn (lower v lo (at w)))) (test atmost (sgn (upper v hi (at w))))
+
+  allTrueAt-truth : (b : Bool) (w : List ℤ) (fs : Formulas) → allTrueAt b w fs ≡ truths b fs (at w)
+  allTrueAt-truth b w none = refl
+  allTrueAt-truth b w (more f fs) = ap₂ (join b) (trueAt-truth w f) (allTrueAt-truth b w fs)

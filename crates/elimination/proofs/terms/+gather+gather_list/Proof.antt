@@ -1,0 +1,282 @@
+use borrow.Author.Needs.{needs}
+use native.Mathlib.Omega.{arith}
+use mathlib.Core.Path.{_≡_, refl, sym, ap, subst, _∙_}
+use mathlib.Core.List.{List}
+use mathlib.Core.Logic.{_⊎_, inl, inr, ⊎-elim}
+use Prim.Native.Nat.{_+_, _-_, _≤_}
+use lib.ListN.{length, take, drop}
+use lib.IntN.{ℤ}
+use Rattle.reading.specs.Bytes.{le2}
+use Rattle.reading.specs.Formula.{encode}
+use Rattle.reading.specs.Reading.{treeOf}
+use Rattle.elimination.specs.Points as points
+use Rattle.elimination.specs.Gathering.{rowsOf, usedOf, countOf, Gathers, Collected}
+use Rattle.elimination.specs.declared.Gathered.{Gathered}
+use Rattle.elimination.proofs.Sources.{formulaKind, kind-is, kind-leaf, kind-list, four-long, part-long}
+use Rattle.elimination.proofs.Walking.{begins-long, walk-start}
+use Rattle.elimination.proofs.TermLaws.{not-gathers, not-used, not-collected, Goes, gather-start, turn-gathers, turn-used, turn-next, turn-full, turn-end}
+use Prim.Native.Nat.{ℕ, _<_}
+use borrow.Fn.Kinds.{In}
+use borrow.Fn.PlainCycle.{Measures, is, falls, and}
+use Rattle.elimination.proofs.terms.gather.Reads as gather
+use Rattle.elimination.proofs.terms.gather.Kinds as gather-kinds
+use Rattle.elimination.proofs.terms.+gather+gather_list.Lts-gather as gather-lts
+use Rattle.elimination.proofs.terms.gather_list.Reads as gather-list
+use Rattle.elimination.proofs.terms.gather_list.Kinds as gather-list-kinds
+use Rattle.elimination.proofs.terms.+gather+gather_list.Lts-gather_list as gather-list-lts
+use Rattle.elimination.proofs.terms.after.Reads as after-reads
+use Rattle.elimination.proofs.terms.count_of.Reads as count-of-reads
+use Rattle.elimination.proofs.terms.is_full.Reads as is-full-reads
+use Rattle.elimination.proofs.terms.of_leaf.Reads as of-leaf-reads
+use Rattle.elimination.proofs.terms.used_of.Reads as used-of-reads
+use Rattle.reading.proofs.numbers.u16_at.Reads as u16-at-reads
+use Rattle.elimination.proofs.terms.+gather+gather_list.{statement}
+use Rattle.elimination.proofs.terms.+gather+gather_list.Tie.{close}
+
+abbrev μ-gather : Measures 2 gather-kinds.ps ℕ
+μ-gather κs a = length (a .0 .now) + length (a .0 .now) + 1
+
+abbrev μ-gather-list : Measures 2 gather-list-kinds.ps ℕ
+μ-gather-list κs a = length (a .0 .now) + length (a .0 .now)
+
+abbrev gather-at : ℕ → In 2 gather-kinds.ps
+gather-at t = and 2 gather-kinds.ps (is 2 gather-kinds.ps μ-gather t) gather.Pre
+
+abbrev gather-below : ℕ → In 2 gather-kinds.ps
+gather-below t = and 2 gather-kinds.ps (falls 2 gather-kinds.ps _<_ μ-gather t) gather.Pre
+
+abbrev gather-list-at : ℕ → In 2 gather-list-kinds.ps
+gather-list-at t =
+    and 2 gather-list-kinds.ps (is 2 gather-list-kinds.ps μ-gather-list t) gather-list.Pre
+
+abbrev gather-list-below : ℕ → In 2 gather-list-kinds.ps
+gather-list-below t =
+    and 2 gather-list-kinds.ps (falls 2 gather-list-kinds.ps _<_ μ-gather-list t) gather-list.Pre
+
+abbrev gather-calls : ℕ → gather-lts.Claims
+gather-calls t = (u16-at-reads.Asked, u16-at-reads.Learnt, gather-below t, gather.Post, after-reads.Asked, after-reads.Learnt, gather-list-below t, gather-list.Post, of-leaf-reads.Asked, of-leaf-reads.Learnt)
+
+abbrev gather-list-calls : ℕ → gather-list-lts.Claims
+gather-list-calls t = (u16-at-reads.Asked, u16-at-reads.Learnt, gather-below t, gather.Post, is-full-reads.Asked, is-full-reads.Learnt, used-of-reads.Asked, used-of-reads.Learnt, count-of-reads.Asked, count-of-reads.Learnt)
+
+four : {s : List ℕ} {x : ℕ} {ts : List ℤ} {n : ℕ} → Gathers s x ts n → 4 ≤ length s
+four {s} g = omega (arith, four-long (treeOf s), begins-long (g .begins))
+
+gather-u16-at-requires : (t : ℕ) → gather-lts.Need-u16-at-requires (gather-calls t) (gather-at t) gather.Post
+gather-u16-at-requires t c κs = omega (arith, four (c .before .pre .1))
+
+gather-sub-gather : (t : ℕ) → gather-lts.Need-sub-gather (gather-calls t) (gather-at t) gather.Post
+gather-sub-gather t c = omega (arith, four (c .before .before .before .pre .1))
+
+gather-part-gather-start : (t : ℕ) → gather-lts.Need-part-gather-start (gather-calls t) (gather-at t) gather.Post
+gather-part-gather-start t c = omega (arith, four (c .before .before .before .pre .1))
+
+gather-part-gather-end : (t : ℕ) → gather-lts.Need-part-gather-end (gather-calls t) (gather-at t) gather.Post
+gather-part-gather-end t c = omega (arith, four (c .before .before .before .pre .1))
+
+-- the record is a NOT
+is-not : (t : ℕ) (m : gather-lts.At-match-keys1 (gather-calls t) (gather-at t) gather.Post) → le2 (m .before .before .before .args .s .now) 2 ≡ 4
+is-not t m = sym (m .before .u16-at .ensures) ∙ m .match .keys1
+
+gather-gather-requires : (t : ℕ) → gather-lts.Need-gather-requires (gather-calls t) (gather-at t) gather.Post
+gather-gather-requires t c κs =
+    let m = c .before .before in
+    let a = m .before .before .before in
+    (omega (arith, a .pre .0, part-long 4 (a .args .s .now), four (a .pre .1)), not-gathers (a .pre .1) (is-not t m))
+
+gather-after-requires : (t : ℕ) → gather-lts.Need-after-requires (gather-calls t) (gather-at t) gather.Post
+gather-after-requires t c κs =
+    let k = c .before in
+    let m = k .before .before .before in
+    let a = m .before .before .before in
+    omega (arith, not-used (a .pre .1) (is-not t m) (rowsOf (a .args .n) (a .args .ts .now)) (k .gather .ensures), a .good .0 .0)
+
+gather-gather-list-requires : (t : ℕ) → gather-lts.Need-gather-list-requires (gather-calls t) (gather-at t) gather.Post
+gather-gather-list-requires t c κs =
+    let u = c .before .before .before .before in
+    let a = u .before .before in
+    let e = kind-is (a .pre .1 .begins) in
+    (omega (arith, a .pre .0), (a .pre .1, kind-list (treeOf (a .args .s .now)) (omega (arith, e, u .u16-at .ensures, c .before .before .if1 .left)) (omega (arith, e, u .u16-at .ensures, c .before .if2 .taken))))
+
+gather-of-leaf-requires : (t : ℕ) → gather-lts.Need-of-leaf-requires (gather-calls t) (gather-at t) gather.Post
+gather-of-leaf-requires t c κs =
+    let j = c .before in
+    let u = j .before .before in
+    let a = u .before .before in
+    let e = kind-is (a .pre .1 .begins) in
+    let f = treeOf (a .args .s .now) in
+    let w : (formulaKind f < 5) ⊎ (7 ≤ formulaKind f) = ⊎-elim (λ x. inl (omega (arith, e, u .u16-at .ensures, x .taken))) (λ x. inr (omega (arith, e, u .u16-at .ensures, x .1 .left))) (j .if1 .came) in
+    (a .pre .1, kind-leaf f (a .pre .1 .free) (λ x. j .before .match .rest .1 (u .u16-at .ensures ∙ e ∙ x)) w)
+
+gather-same-length : (t : ℕ) → gather-lts.Need-same-length (gather-calls t) (gather-at t) gather.Post
+gather-same-length t c = search needs
+
+gather-returns : (t : ℕ) → gather-lts.Need-returns (gather-calls t) (gather-at t) gather.Post
+gather-returns t c =
+    let k = c .before .before in
+    let m = k .before .before .before in
+    let a = m .before .before .before in
+    let s = a .args .s .now in
+    let us = rowsOf (a .args .n) (a .args .ts .now) in
+    subst (λ (y : Gathered). Collected (length (encode (treeOf s))) (points.gather (a .args .x) (treeOf s) us) (k .gather .last .1 .1 .0) y) (sym (c .after .ensures)) (not-collected (a .pre .1) (is-not t m) us (k .gather .ensures))
+
+gather-same-length-2 : (t : ℕ) → gather-lts.Need-same-length-2 (gather-calls t) (gather-at t) gather.Post
+gather-same-length-2 t c = search needs
+
+gather-returns-2 : (t : ℕ) → gather-lts.Need-returns-2 (gather-calls t) (gather-at t) gather.Post
+gather-returns-2 t c = c .before .gather-list .ensures
+
+gather-same-length-3 : (t : ℕ) → gather-lts.Need-same-length-3 (gather-calls t) (gather-at t) gather.Post
+gather-same-length-3 t c = search needs
+
+gather-returns-3 : (t : ℕ) → gather-lts.Need-returns-3 (gather-calls t) (gather-at t) gather.Post
+gather-returns-3 t c = c .before .of-leaf .ensures
+
+abbrev gather-list-Inv-loop : gather-list-lts.InvT-loop
+gather-list-Inv-loop s x ts₀ n at₀ left₀ m₀ ts at left m = Goes s x (rowsOf n ts₀) ts m at left
+
+abbrev gather-list-μ-loop : gather-list-lts.MeasureT-loop
+gather-list-μ-loop s x ts₀ n at₀ left₀ m₀ ts at left m = left
+
+gather-list-u16-at-requires : (t : ℕ) → gather-list-lts.Need-u16-at-requires (gather-list-calls t) (gather-list-at t) gather-list.Post gather-list-Inv-loop gather-list-μ-loop
+gather-list-u16-at-requires t c κs =
+    let a = c .before in
+    omega (arith, walk-start (a .pre .1 .0 .begins) (a .pre .1 .0 .free) (a .pre .1 .1) .room)
+
+gather-list-cast-left : (t : ℕ) → gather-list-lts.Need-cast-left (gather-list-calls t) (gather-list-at t) gather-list.Post gather-list-Inv-loop gather-list-μ-loop
+gather-list-cast-left t c = search needs
+
+gather-list-loop-holds : (t : ℕ) → gather-list-lts.Need-loop-holds (gather-list-calls t) (gather-list-at t) gather-list.Post gather-list-Inv-loop gather-list-μ-loop
+gather-list-loop-holds t c =
+    let a = c .before .before in
+    gather-start _ (a .pre .1 .0) (a .pre .1 .1) (c .u16-at .ensures)
+
+gather-list-sub-gather : (t : ℕ) → gather-list-lts.Need-sub-gather (gather-list-calls t) (gather-list-at t) gather-list.Post gather-list-Inv-loop gather-list-μ-loop
+gather-list-sub-gather t c =
+    let g = c .before .loop .inv in
+    omega (arith, g .1 .walk .used, g .1 .walk .within)
+
+gather-list-part-gather-start : (t : ℕ) → gather-list-lts.Need-part-gather-start (gather-list-calls t) (gather-list-at t) gather-list.Post gather-list-Inv-loop gather-list-μ-loop
+gather-list-part-gather-start t c =
+    let g = c .before .loop .inv in
+    omega (arith, g .1 .walk .used, g .1 .walk .within)
+
+gather-list-part-gather-end : (t : ℕ) → gather-list-lts.Need-part-gather-end (gather-list-calls t) (gather-list-at t) gather-list.Post gather-list-Inv-loop gather-list-μ-loop
+gather-list-part-gather-end t c =
+    let g = c .before .loop .inv in
+    omega (arith, g .1 .walk .used, g .1 .walk .within)
+
+gather-list-gather-requires : (t : ℕ) → gather-list-lts.Need-gather-requires (gather-list-calls t) (gather-list-at t) gather-list.Post gather-list-Inv-loop gather-list-μ-loop
+gather-list-gather-requires t c κs =
+    let l = c .before .before .before in
+    let a = l .before .before .before in
+    let g = l .loop .inv in
+    let w = g .1 .walk in
+    (omega (arith, a .pre .0, part-long (l .loop .at) (a .args .s .now), w .used, w .within, w .past), turn-gathers (g .0) (g .1) (c .before .before .loop-test .taken) (a .pre .1 .0 .low))
+
+gather-list-is-full-requires : (t : ℕ) → gather-list-lts.Need-is-full-requires (gather-list-calls t) (gather-list-at t) gather-list.Post gather-list-Inv-loop gather-list-μ-loop
+gather-list-is-full-requires t c κs = search needs
+
+-- a call of `gather` leaves the table's length
+same-long : (t : ℕ) (k : gather-list-lts.After-gather (gather-list-calls t) (gather-list-at t) gather-list.Post gather-list-Inv-loop gather-list-μ-loop) → length (k .gather .last .1 .1 .0) ≡ 640
+same-long t k =
+    let e : length (k .gather .last .1 .1 .0) ≡ length (k .before .before .before .before .loop .ts) = omega arith in
+    e ∙ k .before .before .before .before .loop .inv .1 .table .long
+
+gather-list-same-length : (t : ℕ) → gather-list-lts.Need-same-length (gather-list-calls t) (gather-list-at t) gather-list.Post gather-list-Inv-loop gather-list-μ-loop
+gather-list-same-length t c =
+    let k = c .before .before .before in
+    same-long t k ∙ sym (k .before .before .before .before .before .before .before .pre .1 .0 .table .long)
+
+gather-list-returns : (t : ℕ) → gather-list-lts.Need-returns (gather-list-calls t) (gather-list-at t) gather-list.Post gather-list-Inv-loop gather-list-μ-loop
+gather-list-returns t c =
+    let k = c .before .before .before in
+    let l = k .before .before .before .before in
+    let g = l .loop .inv in
+    turn-full (k .before .before .before .loop-test .taken) (k .gather .ensures) (g .0) (g .1) (sym (c .before .is-full .ensures) ∙ c .if1 .taken)
+
+gather-list-used-of-requires : (t : ℕ) → gather-list-lts.Need-used-of-requires (gather-list-calls t) (gather-list-at t) gather-list.Post gather-list-Inv-loop gather-list-μ-loop
+gather-list-used-of-requires t c κs = search needs
+
+gather-list-add-at : (t : ℕ) → gather-list-lts.Need-add-at (gather-list-calls t) (gather-list-at t) gather-list.Post gather-list-Inv-loop gather-list-μ-loop
+gather-list-add-at t c =
+    let k = c .before .before .before .before in
+    let l = k .before .before .before .before in
+    let a = l .before .before .before in
+    let g = l .loop .inv in
+    omega (arith, turn-used (k .before .before .before .loop-test .taken) (k .gather .ensures) (g .0) (g .1), c .used-of .ensures, a .good .0 .0)
+
+gather-list-count-of-requires : (t : ℕ) → gather-list-lts.Need-count-of-requires (gather-list-calls t) (gather-list-at t) gather-list.Post gather-list-Inv-loop gather-list-μ-loop
+gather-list-count-of-requires t c κs = search needs
+
+gather-list-sub-left : (t : ℕ) → gather-list-lts.Need-sub-left (gather-list-calls t) (gather-list-at t) gather-list.Post gather-list-Inv-loop gather-list-μ-loop
+gather-list-sub-left t c = omega arith
+
+gather-list-loop-less : (t : ℕ) → gather-list-lts.Need-loop-less (gather-list-calls t) (gather-list-at t) gather-list.Post gather-list-Inv-loop gather-list-μ-loop
+gather-list-loop-less t c = omega arith
+
+gather-list-loop-again : (t : ℕ) → gather-list-lts.Need-loop-again (gather-list-calls t) (gather-list-at t) gather-list.Post gather-list-Inv-loop gather-list-μ-loop
+gather-list-loop-again t c =
+    let u = c .before in
+    let e = u .before in
+    let k = e .before .before .before in
+    let l = k .before .before .before .before in
+    let a = l .before .before .before in
+    let g = l .loop .inv in
+    let us = rowsOf (a .args .n) (a .args .ts .now) in
+    let ts = k .gather .last .1 .1 .0 in
+    let r = k .gather .result in
+    let n = turn-next (k .before .before .before .loop-test .taken) (k .gather .ensures) (g .0) (g .1) (sym (e .before .is-full .ensures) ∙ e .if1 .left) (same-long t k) in
+    subst (λ (m : ℕ). Goes (a .args .s .now) (a .args .x) us ts m (l .loop .at + u .used-of .result) (l .loop .left - 1)) (sym (c .count-of .ensures))
+    (subst (λ (m : ℕ). Goes (a .args .s .now) (a .args .x) us ts (countOf r) (l .loop .at + m) (l .loop .left - 1)) (sym (u .used-of .ensures)) n)
+
+gather-list-same-length-2 : (t : ℕ) → gather-list-lts.Need-same-length-2 (gather-list-calls t) (gather-list-at t) gather-list.Post gather-list-Inv-loop gather-list-μ-loop
+gather-list-same-length-2 t c =
+    let l = c .before in
+    l .loop .inv .1 .table .long ∙ sym (l .before .before .before .pre .1 .0 .table .long)
+
+gather-list-returns-2 : (t : ℕ) → gather-list-lts.Need-returns-2 (gather-list-calls t) (gather-list-at t) gather-list.Post gather-list-Inv-loop gather-list-μ-loop
+gather-list-returns-2 t c =
+    let l = c .before in
+    let g = l .loop .inv in
+    turn-end (g .0) (g .1) (c .loop-test .left)
+
+pub +gather+gather-list-spec : {M : Type 1} → statement M
++gather+gather-list-spec = close μ-gather μ-gather-list (λ t. gather-lts.spec (gather-calls t) (gather-at t)
+    gather.Post
+    (gather-u16-at-requires t)
+    (gather-sub-gather t)
+    (gather-part-gather-start t)
+    (gather-part-gather-end t)
+    (gather-gather-requires t)
+    (gather-after-requires t)
+    (gather-gather-list-requires t)
+    (gather-of-leaf-requires t)
+    (gather-same-length t)
+    (gather-returns t)
+    (gather-same-length-2 t)
+    (gather-returns-2 t)
+    (gather-same-length-3 t)
+    (gather-returns-3 t))
+    λ t. gather-list-lts.spec (gather-list-calls t) (gather-list-at t)
+    gather-list.Post
+    gather-list-Inv-loop
+    gather-list-μ-loop
+    (gather-list-u16-at-requires t)
+    (gather-list-cast-left t)
+    (gather-list-loop-holds t)
+    (gather-list-sub-gather t)
+    (gather-list-part-gather-start t)
+    (gather-list-part-gather-end t)
+    (gather-list-gather-requires t)
+    (gather-list-is-full-requires t)
+    (gather-list-same-length t)
+    (gather-list-returns t)
+    (gather-list-used-of-requires t)
+    (gather-list-add-at t)
+    (gather-list-count-of-requires t)
+    (gather-list-sub-left t)
+    (gather-list-loop-less t)
+    (gather-list-loop-again t)
+    (gather-list-same-length-2 t)
+    (gather-list-returns-2 t)

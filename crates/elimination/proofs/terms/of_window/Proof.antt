@@ -1,0 +1,154 @@
+use mathlib.Core.Path.{_≡_, refl, sym, _∙_, ap, subst}
+use mathlib.Core.Bool.{Bool, true, false}
+use mathlib.Core.List.{List}
+use Prim.Native.Nat.{ℕ}
+use native.Mathlib.Omega.{arith}
+use lib.Dec.{eqb}
+use lib.ListN.{length}
+use lib.IntN.{ℤ}
+use mir.Syntax.{w64}
+use mir.Val.{toZ, ofZ}
+use borrow.Author.Tests.{eq-eqb, ne-eqb}
+use Rattle.reading.specs.Limits.{M}
+use Rattle.reading.specs.Bytes.{le2, int4}
+use Rattle.reading.specs.Records.{pick}
+use Rattle.exact.specs.Numbers.{Within, Each}
+use Rattle.exact.specs.Terms.{boundOf}
+use Rattle.exact.proofs.Sizes.{rd, ok}
+use Rattle.elimination.specs.Points.{insert}
+use Rattle.elimination.specs.Gathering.{rowsOf, countOf, Table, Collected}
+use Rattle.elimination.specs.declared.Gathered.{Gathered}
+use Rattle.elimination.specs.declared.Gathered.the-variants.{Fine, Full}
+use Rattle.elimination.proofs.TermLaws.{each-bound, rows-long, collected-fine, collected-full, full-is, insert-grows, table-next}
+use borrow.Author.Needs.{needs}
+use Rattle.elimination.proofs.terms.of_window.Statement.{statement}
+use Rattle.elimination.proofs.terms.of_window.Tie as tie
+use Rattle.elimination.proofs.terms.of_window.Reads as reads
+use Rattle.elimination.proofs.terms.of_window.Lts as lts
+use Rattle.elimination.proofs.terms.add.Reads as add-reads
+use Rattle.elimination.proofs.terms.count_of.Reads as count-of-reads
+use Rattle.elimination.proofs.terms.is_full.Reads as is-full-reads
+use Rattle.exact.proofs.term.bound_of.Reads as bound-of-reads
+use Rattle.reading.proofs.numbers.int_at.Reads as int-at-reads
+use Rattle.reading.proofs.numbers.u16_at.Reads as u16-at-reads
+
+u16-at-requires : tie.Need-u16-at-requires
+u16-at-requires c κs = search needs
+
+cast-v : tie.Need-cast-v
+cast-v c = search needs
+
+returns : tie.Need-returns
+returns c =
+    let u = c .before in
+    let a = u .before .before in
+    let s = a .args .s .now in
+    let ts = a .args .ts .now in
+    let us = rowsOf (a .args .n) ts in
+    let w = a .pre .1 .1 .1 in
+    let z : eqb (le2 s 4) (a .args .x) ≡ false = ne-eqb (le2 s 4) (a .args .x) (λ q. c .if1 .taken (u .u16-at .ensures ∙ q)) in
+    subst (λ (b : Bool). Collected 14 (pick b (insert (boundOf (int4 s 10)) (insert (boundOf (int4 s 6)) us)) us) ts (Fine 14 (a .args .n))) (sym z) (collected-fine 14 (a .args .n) us ts (rows-long (a .args .n) ts) (w .few) refl (w .small))
+
+int-at-requires : tie.Need-int-at-requires
+int-at-requires c κs = search needs
+
+int-at-requires-2 : tie.Need-int-at-requires-2
+int-at-requires-2 c κs = search needs
+
+bound-of-requires : tie.Need-bound-of-requires
+bound-of-requires c κs = search needs
+
+-- the two bounds
+low : (c : tie.After-bound-of) → c .bound-of .result ≡ boundOf (int4 (c .before .before .before .before .before .before .before .args .s .now) 6)
+low c = let i = c .before .before .before in c .bound-of .ensures ∙ ap boundOf (rd (ok (i .int-at .result) (i .int-at .ok)) ∙ i .int-at .ensures)
+
+add-requires : tie.Need-add-requires
+add-requires c κs =
+    let a = c .before .before .before .before .before .before .before in
+    (a .pre .1 .1 .1, subst (Each M) (sym (low c)) (each-bound (a .pre .1 .0)))
+
+is-full-requires : tie.Need-is-full-requires
+is-full-requires c κs = search needs
+
+same-length : tie.Need-same-length
+same-length c = search needs
+
+-- the terms after lo
+first : (c : tie.After-add) → let a = c .before .before .before .before .before .before .before .before in Collected 14 (insert (boundOf (int4 (a .args .s .now) 6)) (rowsOf (a .args .n) (a .args .ts .now))) (c .add .last .0) (c .add .result)
+first c = let a = c .before .before .before .before .before .before .before .before in subst (λ (t : List ℤ). Collected 14 (insert t (rowsOf (a .args .n) (a .args .ts .now))) (c .add .last .0) (c .add .result)) (low (c .before)) (c .add .ensures)
+
+-- the window is one on x
+on : (c : tie.Else1) → let a = c .before .before .before in eqb (le2 (a .args .s .now) 4) (a .args .x) ≡ true
+on c = let a = c .before .before .before in eq-eqb (le2 (a .args .s .now) 4) (a .args .x) (sym (c .before .u16-at .ensures) ∙ c .if1 .left)
+
+returns-2 : tie.Need-returns-2
+returns-2 c =
+    let k = c .before .before .before in
+    let a = k .before .before .before .before .before .before .before .before in
+    let s = a .args .s .now in
+    let us = rowsOf (a .args .n) (a .args .ts .now) in
+    let vs = insert (boundOf (int4 s 6)) us in
+    let h = full-is (first k) (sym (c .before .is-full .ensures) ∙ c .if2 .taken) in
+    subst (λ (b : Bool). Collected 14 (pick b (insert (boundOf (int4 s 10)) vs) us) (k .add .last .0) Full) (sym (on (k .before .before .before .before .before)))
+    (collected-full 14 (insert (boundOf (int4 s 10)) vs) (k .add .last .0) (omega (arith, h, insert-grows (boundOf (int4 s 10)) vs)) (first k .small))
+
+count-of-requires : tie.Need-count-of-requires
+count-of-requires c κs = search needs
+
+bound-of-requires-2 : tie.Need-bound-of-requires-2
+bound-of-requires-2 c κs = search needs
+
+high : (c : tie.After-bound-of2) → c .bound-of2 .result ≡ boundOf (int4 (c .before .before .before .before .before .before .before .before .before .before .before .before .before .before .args .s .now) 10)
+high c = let i = c .before .before .before .before .before .before .before .before .before in c .bound-of2 .ensures ∙ ap boundOf (rd (ok (i .int-at2 .result) (i .int-at2 .ok)) ∙ i .int-at2 .ensures)
+
+same : (k : tie.After-add) → length (k .add .last .0) ≡ length (k .before .before .before .before .before .before .before .before .args .ts .now)
+same k = omega arith
+
+-- the table between the two
+between : (c : tie.After-count-of) → let k = c .before .before .before .before .before in let a = k .before .before .before .before .before .before .before .before in
+    Table (k .add .last .0) (c .count-of .result) × (rowsOf (c .count-of .result) (k .add .last .0) ≡ insert (boundOf (int4 (a .args .s .now) 6)) (rowsOf (a .args .n) (a .args .ts .now)))
+between c =
+    let k = c .before .before .before .before .before in
+    let a = k .before .before .before .before .before .before .before .before in
+    let w = table-next (first k) (sym (c .before .before .before .is-full .ensures) ∙ c .before .before .if2 .left) (same k ∙ a .pre .1 .1 .1 .long) in
+    let e = sym (c .count-of .ensures) in
+    (subst (Table (k .add .last .0)) e (w .0), subst (λ (n : ℕ). rowsOf n (k .add .last .0) ≡ insert (boundOf (int4 (a .args .s .now) 6)) (rowsOf (a .args .n) (a .args .ts .now))) e (w .1))
+
+add-requires-2 : tie.Need-add-requires-2
+add-requires-2 c κs = (between (c .before) .0, subst (Each M) (sym (high c)) (each-bound (c .before .before .before .before .before .before .before .before .before .before .before .before .before .before .pre .1 .1 .0)))
+
+same-length-2 : tie.Need-same-length-2
+same-length-2 c = search needs
+
+returns-3 : tie.Need-returns-3
+returns-3 c =
+    let b = c .before .before in
+    let k = b .before .before .before .before .before .before in
+    let a = k .before .before .before .before .before .before .before .before in
+    let s = a .args .s .now in
+    let us = rowsOf (a .args .n) (a .args .ts .now) in
+    let vs = insert (boundOf (int4 s 6)) us in
+    let ts = c .before .add2 .last .0 in
+    let r = c .before .add2 .result in
+    subst (λ (b : Bool). Collected 14 (pick b (insert (boundOf (int4 s 10)) vs) us) ts r) (sym (on (k .before .before .before .before .before)))
+    (subst (λ (t : List ℤ). Collected 14 (insert t vs) ts r) (high b) (subst (λ (l : List (List ℤ)). Collected 14 (insert (b .bound-of2 .result) l) ts r) (between (b .before) .1) (c .before .add2 .ensures)))
+
+pub of-window-spec : {M : Type 1} → statement M
+of-window-spec =
+    tie.close
+    (tie.spec
+    u16-at-requires
+    cast-v
+    returns
+    int-at-requires
+    int-at-requires-2
+    bound-of-requires
+    add-requires
+    is-full-requires
+    same-length
+    returns-2
+    count-of-requires
+    bound-of-requires-2
+    add-requires-2
+    same-length-2
+    returns-3)

@@ -1,0 +1,25 @@
+-- What the functions of the test at fractions ask for and answer: whether a formula holds, and its length.
+use Prim.Native.Nat.{ℕ, _+_}
+use mathlib.Core.List.{List}
+use lib.ListN.{length}
+use lib.IntN.{ℤ}
+use Rattle.reading.specs.Limits.{mostValue}
+use Rattle.reading.specs.Formula.{Formula, Free, encode}
+use Rattle.reading.specs.Reading.{treeOf, Begins}
+use Rattle.exact.specs.Numbers.{Each}
+use Rattle.elimination.specs.Pushing.{flip}
+use Rattle.elimination.specs.Testing.{trueAt}
+use Rattle.elimination.specs.declared.Holds.{Holds}
+
+abbrev pub holdsOf : List ℤ → Formula → Holds
+holdsOf w f = record { used = length (encode f); holds = trueAt w f }
+
+-- a formula under NOT
+abbrev pub deniedOf : Holds → Holds
+deniedOf h = record { used = 4 + h .used; holds = flip (h .holds) }
+
+-- s begins with a formula without quantifiers, and the values are in their range
+pub record Tries (s : List ℕ) (w : List ℤ) : Type 0 where
+  pub begins : Begins s (treeOf s)
+  pub free : Free (treeOf s)
+  pub values : Each mostValue w

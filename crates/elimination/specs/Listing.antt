@@ -1,0 +1,45 @@
+-- The list of the copies while the code writes it: the left fold of `add` over the points tried so far, and what `Copies` then holds. It may end at
+-- resultBytes + 6: the six bytes of its own record come on top of a list left with one member.
+use mathlib.Core.Path.{_≡_}
+use mathlib.Core.Bool.{Bool, true, false}
+use mathlib.Core.List.{List}
+use Prim.Native.Nat.{ℕ, _+_, _≤_, _<_}
+use lib.ListN.{length}
+use lib.Dec.{ltb}
+use Rattle.reading.specs.Limits.{resultBytes}
+use Rattle.reading.specs.Formula.{Formulas, encodes}
+use Rattle.elimination.specs.Copying.{Come, Tally, over, going, add, decidedOf, keptOf, At}
+use Rattle.elimination.specs.declared.Copied.{Copied}
+use Rattle.elimination.specs.declared.Copied.the-variants.{Decided, Kept, Big}
+use Rattle.elimination.specs.declared.Copies.{Copies}
+
+-- the list after a copy that ends at e: too far or not; and where the list is over already or not
+abbrev pub keptBy : Bool → Copies → ℕ → Copies
+keptBy true c e = record { list = c .list; over = true; big = c .big }
+keptBy false c e = record { list = keptOf (c .list) e; over = false; big = c .big }
+
+abbrev pub keptIn : Bool → Copies → ℕ → Copies
+keptIn true c e = c
+keptIn false c e = keptBy (ltb (resultBytes + 6) e) c e
+
+abbrev pub joinedOf : Copies → Copied → Copies
+joinedOf c Big = record { list = c .list; over = c .over; big = true }
+joinedOf c (Decided used v) = record { list = decidedOf (c .list) v; over = c .over; big = c .big }
+joinedOf c (Kept used e) = keptIn (c .over) c e
+
+-- c holds the list of the members gs, over o₀: they are there, or they are longer than any result may be
+pub record Live (all : Bool) (gs : Formulas) (c : Copies) (o₀ o : List ℕ) : Type 0 where
+  pub same : c .list .all ≡ all
+  pub end : c .list .end ≤ resultBytes + 6
+  pub few : c .list .kept ≤ c .list .end
+  pub written : c .over ≡ false → At (c .list) gs 0 o₀ o
+  pub large : c .over ≡ true → resultBytes < length (encodes gs)
+
+-- c holds the tally: a number was too big, or the list lives
+abbrev pub Lists : Bool → Tally → Copies → List ℕ → List ℕ → Type 0
+Lists all over c o₀ o = c .big ≡ true
+Lists all (going x gs) c o₀ o = (c .big ≡ false) × (c .list .fixed ≡ x) × Live all gs c o₀ o
+
+-- one copy more: whatever tally c holds, x holds it with the copy d added
+abbrev pub Next : Copies → Come → List ℕ → List ℕ → Copies → Type 0
+Next c d o o′ x = (all : Bool) (t : Tally) (o₀ : List ℕ) → Lists all t c o₀ o → Lists all (add all t d) x o₀ o′
