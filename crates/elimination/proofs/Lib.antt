@@ -1,6 +1,7 @@
 -- The laws of `elimination`. First the definitions: formulas within the limits and around their last quantifier, one step, the run; then the meaning:
 -- whole numbers and their signs, sums, the line of the fractions, truth at a vector, pushing, the list rule, boundary terms, copies, steps,
--- values; demand 3, free variables, closed sheets, the starred sheets. Then the code: what is written, the one pass and what it is, terms, the test.
+-- values; demand 3, free variables, closed sheets, the starred sheets. Then the code: what is written, the one pass and what it is, terms, points, one
+-- step, the run, the test; and that each promise allows one reply.
 pub mod Wide
 pub mod Fitting
 pub mod Around
@@ -39,3 +40,10 @@ pub mod Joining
 pub mod Walking
 pub mod TermLaws
 pub mod TestLaws
+pub mod PointLaws
+pub mod Replacing
+pub mod Moving
+pub mod WholeStep
+pub mod RunLaws
+pub mod Delivery
+pub mod OneReply

@@ -16,11 +16,11 @@ use Rattle.elimination.specs.Copying.{Come, big, Tally, over, going, sno
 
 -- ---- the tally, from members that are ruled
 
-abbrev joins : Formulas → Formulas → Formulas
+abbrev pub joins : Formulas → Formulas → Formulas
 joins none hs = hs
 joins (more g gs) hs = more g (joins gs hs)
 
-joins-none : (gs : Formulas) → joins gs none ≡ gs
+pub joins-none : (gs : Formulas) → joins gs none ≡ gs
 joins-none none = refl
 joins-none (more g gs) = ap (more g) (joins-none gs)
 
@@ -28,19 +28,19 @@ joins-snoc : (gs : Formulas) (g : Formula) (hs : Formulas) → joins (snoc gs g)
 joins-snoc none g hs = refl
 joins-snoc (more f fs) g hs = ap (more f) (joins-snoc fs g hs)
 
-or-false : (x : Bool) → (x || false) ≡ x
+pub or-false : (x : Bool) → (x || false) ≡ x
 or-false true = refl
 or-false false = refl
 
 -- one member: what `add` makes of it, and what `decidedBy` and `stay` say of it and of those that follow, d and s
-record One (all x : Bool) (gs : Formulas) (f : Formula) (k : Known) (d : Bool) (s : Formulas) : Type 0 where
-  y : Bool
-  hs : Formulas
-  is : add all (going x gs) (comeBy k f) ≡ going y hs
-  fixed : (y || d) ≡ (x || (decides all k || d))
-  members : joins hs s ≡ joins gs (keep k f s)
+pub record One (all x : Bool) (gs : Formulas) (f : Formula) (k : Known) (d : Bool) (s : Formulas) : Type 0 where
+  pub y : Bool
+  pub hs : Formulas
+  pub is : add all (going x gs) (comeBy k f) ≡ going y hs
+  pub fixed : (y || d) ≡ (x || (decides all k || d))
+  pub members : joins hs s ≡ joins gs (keep k f s)
 
-one : (all x : Bool) (gs : Formulas) (f : Formula) (k : Known) (d : Bool) (s : Formulas) → One all x gs f k d s
+pub one : (all x : Bool) (gs : Formulas) (f : Formula) (k : Known) (d : Bool) (s : Formulas) → One all x gs f k d s
 one all true gs f (decided v) d s = record { y = true; hs = gs; is = refl; fixed = refl; members = refl }
 one all false gs f (decided v) d s = record { y = under all v; hs = gs; is = refl; fixed = refl; members = refl }
 one all x gs f unknown d s = record { y = x; hs = snoc gs f; is = refl; fixed = refl; members = joins-snoc gs f s }
@@ -54,7 +54,7 @@ tally-over : (all : Bool) (q : Spot) (ps : Formulas) → tallyOf all q over ps �
 tally-over all q none = refl
 tally-over all q (more p ps) = tally-over all q ps
 
-abbrev sums : Bool → Bool → Bool → Formulas → Formulas → Tally
+abbrev pub sums : Bool → Bool → Bool → Formulas → Formulas → Tally
 sums b x d gs s = pick b (going (x || d) (joins gs s)) over
 
 fold-is : (all : Bool) (q : Spot) (x : Bool) (gs ps : Formulas) → tallyOf all q (going x gs) ps ≡ sums (fitAll q ps) x (decidedBy all (copyAll q ps)) gs (stay (copyAll q ps))

@@ -13,4 +13,7 @@ pub mod Copying
 pub mod Listing
 pub mod Gathering
 pub mod Stepping
+pub mod Trying
+pub mod Splicing
+pub mod Running
 pub mod Holding

@@ -2,10 +2,14 @@
 pub mod copying;
 pub mod listing;
 pub mod lists;
+pub mod running;
+pub mod stepping;
 pub mod terms;
 pub mod testing;
+pub mod trying;
 pub mod writing;
 
+pub use running::eliminate;
 pub use testing::test;
 
 // How a formula comes out at a point: true or false; kept, with the end of its bytes in the output; or with a number outside -M..M. The first
@@ -37,6 +41,12 @@ pub struct Copies {
 pub enum Gathered {
     Fine(usize, usize),
     Full,
+}
+
+// What the replacement of a quantifier came to: the bytes of its body and the length of the replacement, or 10 or 11.
+pub enum Made {
+    Fine(usize, usize),
+    Refused(usize),
 }
 
 // What a step came to: the length of the formula after it, or 10, 11 or 12.

@@ -61,7 +61,7 @@ pub fn with_copy(s: &[u8], q: Point, c: Copies, out: &mut [u8]) -> Copies
     requires { ⌜ Begins (now s) (treeOf (now s)) × Free (treeOf (now s)) ⌝ }
     requires { ⌜ Ready q ⌝ }
     requires { ⌜ resultBytes + 6 + 7 * length (encode (treeOf (now s))) ≤ length (now out) ⌝ }
-    requires { ⌜ (c .list .end ≤ resultBytes + 6) × (c .list .kept < resultBytes + 6) ⌝ }
+    requires { ⌜ (c .list .end ≤ resultBytes + 6) × (c .list .kept ≤ resultBytes + 6) ⌝ }
     ensures { λ x. ⌜ Next c (copied false (spotOf q) (treeOf (now (s .entry)))) (now (out .entry)) (now (out .exit)) x ⌝ }
 {
     let l = c.list;

@@ -1,7 +1,7 @@
 // Writing numbers and records at a place of a buffer. Each promise is an equation with `lay`, so it also says that nothing else changes.
 ghost use mathlib.Core.Path.{_≡_};
 ghost use Prim.Native.Nat.{_+_, _-_, _≤_, _<_};
-ghost use lib.ListN.{length};
+ghost use lib.ListN.{length, take, drop};
 ghost use mir.Syntax.{w32};
 ghost use mir.Val.{ofZ};
 ghost use Rattle.reading.specs.Limits.{M};
@@ -98,6 +98,18 @@ pub fn put_zeros(d: &mut [u8], from: usize, to: usize)
     let mut i = from;
     while i < to {
         d[i] = 0;
+        i += 1;
+    }
+}
+
+// n bytes of `from`, those from `start` on, laid over `to` from `at` on.
+pub fn paste(to: &mut [u8], at: usize, from: &[u8], start: usize, n: usize)
+    requires { ⌜ (at + n ≤ length (now to)) × (start + n ≤ length (now from)) ⌝ }
+    ensures { λ _. ⌜ now (to .exit) ≡ lay at (take n (drop start (now (from .entry)))) (now (to .entry)) ⌝ }
+{
+    let mut i = 0;
+    while i < n {
+        to[at + i] = from[start + i];
         i += 1;
     }
 }

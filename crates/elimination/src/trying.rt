@@ -1,0 +1,144 @@
+// The copies of a body at all points: at -infinity and, where there is a boundary term, at +infinity and at the midpoint of each two terms. A
+// number that is too big ends the work at once.
+use crate::Copies;
+use crate::listing;
+use crate::lists;
+use exact::Point;
+use exact::PointKind;
+use exact::row;
+use exact::term;
+ghost use Prim.Native.Nat.{_+_, _*_, _≤_, _<_};
+ghost use mathlib.Core.Bool.{false};
+ghost use mathlib.Core.List.{[], _∷_};
+ghost use lib.IntN.{pos};
+ghost use lib.ListN.{length, drop, replicate};
+ghost use Rattle.reading.specs.Limits.{variables, resultBytes};
+ghost use Rattle.reading.specs.Formula.{encode, Free, none};
+ghost use Rattle.reading.specs.Reading.{treeOf, Begins};
+ghost use Rattle.exact.specs.Terms.{midpoint};
+ghost use Rattle.exact.specs.Atoms.{spotBy, here};
+ghost use Rattle.elimination.specs.Points.{midpoints, allMidpoints, points};
+ghost use Rattle.elimination.specs.Gathering.{rowAt, rowsOf, Table};
+ghost use Rattle.elimination.specs.Copying.{going};
+ghost use Rattle.elimination.specs.Listing.{Lists};
+ghost use Rattle.elimination.specs.Stepping.{tallyAll};
+ghost use Rattle.elimination.specs.Trying.{Body, Holding, Tries};
+
+// The copy at a point that is no fraction.
+fn far(s: &[u8], kind: PointKind, x: usize, c: Copies, out: &mut [u8]) -> Copies
+    requires { ⌜ Body (now s) x (length (now out)) ⌝ }
+    requires { ⌜ Holding c (now out) ⌝ }
+    ensures { λ r. ⌜ Tries c (spotBy kind x (replicate 10 (pos 0)) ∷ []) (treeOf (now (s .entry))) (now (out .entry)) (now (out .exit)) r ⌝ }
+{
+    let q = Point {
+        kind: kind,
+        x: x,
+        n: [0i64; 10],
+    };
+    listing::with_copy(s, q, c, out)
+}
+
+// The copy at the midpoint of terms i and j, unless one of the midpoint's own numbers is too big.
+fn at_midpoint(
+    s: &[u8],
+    x: usize,
+    ts: &[i64],
+    n: usize,
+    i: usize,
+    j: usize,
+    c: Copies,
+    out: &mut [u8],
+) -> Copies
+    requires { ⌜ Body (now s) x (length (now out)) ⌝ }
+    requires { ⌜ Table (now ts) n ⌝ }
+    requires { ⌜ (i < n) × (j < n) ⌝ }
+    requires { ⌜ Holding c (now out) ⌝ }
+    ensures { λ r. ⌜ Tries c (here x (midpoint (rowAt (now (ts .entry)) i) (rowAt (now (ts .entry)) j)) ∷ []) (treeOf (now (s .entry))) (now (out .entry)) (now (out .exit)) r ⌝ }
+{
+    let p = 10 * i;
+    let q = 10 * j;
+    let pe = p + 10;
+    let qe = q + 10;
+    let m = term::midpoint(&ts[p..pe], &ts[q..qe]);
+    if row::within_all(&m) {
+        let at = Point {
+            kind: PointKind::Here,
+            x: x,
+            n: m,
+        };
+        return listing::with_copy(s, at, c, out);
+    }
+    let l = c.list;
+    Copies {
+        list: l,
+        over: c.over,
+        big: true,
+    }
+}
+
+// The copies at the midpoints of term i with itself and each later term.
+fn row_of(s: &[u8], x: usize, ts: &[i64], n: usize, i: usize, c: Copies, out: &mut [u8]) -> Copies
+    requires { ⌜ Body (now s) x (length (now out)) ⌝ }
+    requires { ⌜ Table (now ts) n ⌝ }
+    requires { ⌜ i < n ⌝ }
+    requires { ⌜ Holding c (now out) ⌝ }
+    ensures { λ r. ⌜ Tries c (midpoints x (rowAt (now (ts .entry)) i) (drop i (rowsOf n (now (ts .entry))))) (treeOf (now (s .entry))) (now (out .entry)) (now (out .exit)) r ⌝ }
+{
+    let mut d = c;
+    let mut j = i;
+    while j < n {
+        d = at_midpoint(s, x, ts, n, i, j, d, out);
+        if d.big {
+            return d;
+        }
+        j += 1;
+    }
+    d
+}
+
+// The copies at the midpoints of each two terms.
+fn rows(s: &[u8], x: usize, ts: &[i64], n: usize, c: Copies, out: &mut [u8]) -> Copies
+    requires { ⌜ Body (now s) x (length (now out)) ⌝ }
+    requires { ⌜ Table (now ts) n ⌝ }
+    requires { ⌜ Holding c (now out) ⌝ }
+    ensures { λ r. ⌜ Tries c (allMidpoints x (rowsOf n (now (ts .entry)))) (treeOf (now (s .entry))) (now (out .entry)) (now (out .exit)) r ⌝ }
+{
+    let mut d = c;
+    let mut i = 0;
+    while i < n {
+        d = row_of(s, x, ts, n, i, d, out);
+        if d.big {
+            return d;
+        }
+        i += 1;
+    }
+    d
+}
+
+// The list of the copies of the formula at the start of s, at all points of x; the table ts holds its n boundary terms.
+pub fn all_copies(s: &[u8], x: usize, ts: &[i64], n: usize, all: bool, out: &mut [u8]) -> Copies
+    requires { ⌜ Begins (now s) (treeOf (now s)) × Free (treeOf (now s)) ⌝ }
+    requires { ⌜ x < variables ⌝ }
+    requires { ⌜ Table (now ts) n ⌝ }
+    requires { ⌜ resultBytes + 6 + 7 * length (encode (treeOf (now s))) ≤ length (now out) ⌝ }
+    ensures { λ r. ⌜ Lists all (tallyAll all (going false none) (points x (rowsOf n (now (ts .entry)))) (treeOf (now (s .entry)))) r (now (out .entry)) (now (out .exit)) ⌝ }
+{
+    let l = lists::opened(all, 0);
+    let c = Copies {
+        list: l,
+        over: false,
+        big: false,
+    };
+    let d = far(s, PointKind::Below, x, c, out);
+    if d.big {
+        return d;
+    }
+    if n == 0 {
+        return d;
+    }
+    let e = far(s, PointKind::Above, x, d, out);
+    if e.big {
+        return e;
+    }
+    rows(s, x, ts, n, e, out)
+}
