@@ -1,0 +1,28 @@
+-- The nine numbers go below as an array; the reply is that of the call there.
+use mathlib.Core.Path.{_≡_, ap, _∙_}
+use mathlib.Core.List.{List, [], _∷_}
+use lib.IntN.{ℤ}
+use Rattle.exact.proofs.Sizes.{rd}
+use Rattle.elimination.specs.Testing.{tested}
+use Rattle.elimination.specs.declared.Tested.{Tested}
+use borrow.Author.Needs.{needs}
+use Rattle.desk.proofs.vb_test.Statement.{statement}
+use Rattle.desk.proofs.vb_test.Tie as tie
+use Rattle.desk.proofs.vb_test.Reads as reads
+use Rattle.desk.proofs.vb_test.Lts as lts
+use Rattle.elimination.proofs.test.Reads as test-reads
+
+-- src/lib.rt:59:9
+test-requires : tie.Need-test-requires
+test-requires c κs = search needs
+
+-- src/lib.rt:54:1
+returns : tie.Need-returns
+returns c =
+    let a = c .before .before in
+    let f = a .fits in
+    let e = c .test .ensures ∙ (λ i. tested (a .args .sheet .now) (rd (f .p0) i ∷ rd (f .p1) i ∷ rd (f .p2) i ∷ rd (f .p3) i ∷ rd (f .p4) i ∷ rd (f .p5) i ∷ rd (f .p6) i ∷ rd (f .p7) i ∷ rd (f .q) i ∷ [])) in
+    ((ap (λ (t : Tested). t .number) e, ap (λ (t : Tested). t .verdict) e), ap (λ (t : Tested). t .place) e)
+
+pub vb-test-spec : {M : Type 1} → statement M
+vb-test-spec = tie.close (tie.spec test-requires returns)

@@ -1,0 +1,100 @@
+// The calls that C makes: each a line over the proved call below, with the same promise and no `requires`.
+ghost use mathlib.Core.Path.{_≡_};
+ghost use mathlib.Core.List.{[], _∷_};
+ghost use Rattle.reading.specs.Limits.{resultBytes, resultLevels};
+ghost use Rattle.reading.specs.Answers.{reading, answerOf};
+ghost use Rattle.reading.specs.Quantifiers.{lookPart};
+ghost use Rattle.elimination.specs.Eliminate.{eliminate};
+ghost use Rattle.elimination.specs.Testing.{tested};
+
+#[repr(C)]
+pub struct Reply {
+    pub number: u64,
+    pub verdict: u64,
+    pub place: u64,
+    pub length: u64,
+}
+
+#[repr(C)]
+pub struct Tested {
+    pub number: u64,
+    pub verdict: u64,
+    pub place: u64,
+}
+
+#[repr(C)]
+pub struct Place {
+    pub number: u64,
+    pub place: u64,
+}
+
+#[repr(C)]
+pub struct Part {
+    pub at: u64,
+    pub length: u64,
+}
+
+// The sheet's condition with every quantifier gone, at the start of the result buffer.
+#[no_mangle]
+pub extern "C" fn vb_eliminate(sheet: &[u8], result: &mut [u8], work: &mut [u8]) -> Reply
+    ensures { λ r. ⌜ (r .number ≡ eliminate (now (sheet .entry)) (now (result .entry)) (now (work .entry)) .number) × (r .verdict ≡ eliminate (now (sheet .entry)) (now (result .entry)) (now (work .entry)) .verdict) ⌝ }
+    ensures { λ r. ⌜ (r .place ≡ eliminate (now (sheet .entry)) (now (result .entry)) (now (work .entry)) .place) × (r .length ≡ eliminate (now (sheet .entry)) (now (result .entry)) (now (work .entry)) .length) ⌝ }
+    ensures { λ r. ⌜ (now (result .exit) ≡ eliminate (now (sheet .entry)) (now (result .entry)) (now (work .entry)) .result) × (now (work .exit) ≡ eliminate (now (sheet .entry)) (now (result .entry)) (now (work .entry)) .work) ⌝ }
+{
+    let r = elimination::eliminate(sheet, result, work);
+    Reply {
+        number: r.number as u64,
+        verdict: r.verdict as u64,
+        place: r.place as u64,
+        length: r.length as u64,
+    }
+}
+
+// Whether a quantifier-free sheet holds at p0/q .. p7/q.
+#[no_mangle]
+pub extern "C" fn vb_test(
+    sheet: &[u8],
+    p0: i64,
+    p1: i64,
+    p2: i64,
+    p3: i64,
+    p4: i64,
+    p5: i64,
+    p6: i64,
+    p7: i64,
+    q: i64,
+) -> Tested
+    ensures { λ r. ⌜ (r .number ≡ tested (now (sheet .entry)) (p0 ∷ p1 ∷ p2 ∷ p3 ∷ p4 ∷ p5 ∷ p6 ∷ p7 ∷ q ∷ []) .number) × (r .verdict ≡ tested (now (sheet .entry)) (p0 ∷ p1 ∷ p2 ∷ p3 ∷ p4 ∷ p5 ∷ p6 ∷ p7 ∷ q ∷ []) .verdict) ⌝ }
+    ensures { λ r. ⌜ r .place ≡ tested (now (sheet .entry)) (p0 ∷ p1 ∷ p2 ∷ p3 ∷ p4 ∷ p5 ∷ p6 ∷ p7 ∷ q ∷ []) .place ⌝ }
+{
+    let r = elimination::test(sheet, [p0, p1, p2, p3, p4, p5, p6, p7, q]);
+    Tested {
+        number: r.number as u64,
+        verdict: r.verdict as u64,
+        place: r.place as u64,
+    }
+}
+
+// Number and place of the answer under the limits of a result.
+#[no_mangle]
+pub extern "C" fn vb_read(sheet: &[u8]) -> Place
+    ensures { λ r. ⌜ (r .number ≡ answerOf (reading resultBytes resultLevels (now (sheet .entry))) .number) × (r .place ≡ answerOf (reading resultBytes resultLevels (now (sheet .entry))) .place) ⌝ }
+{
+    let r = reading::read(sheet, reading::RESULT_BYTES, reading::RESULT_LEVELS);
+    Place {
+        number: r.number as u64,
+        place: r.place as u64,
+    }
+}
+
+// Where the body of the last quantifier stands in the sheet.
+#[no_mangle]
+pub extern "C" fn vb_look(sheet: &[u8]) -> Part
+    ensures { λ r. ⌜ (r .at ≡ lookPart (now (sheet .entry)) .at) × (r .length ≡ lookPart (now (sheet .entry)) .length) ⌝ }
+{
+    let r = reading::quantifiers::look_part(sheet);
+    Part {
+        at: r.at as u64,
+        length: r.length as u64,
+    }
+}
