@@ -5,7 +5,7 @@
 fn checked(h: u64, b: u8) -> u64 {
     let x = h ^ (b as u64);
     let low = (x % 4294967296) * 435;
-    let high = (x / 4294967296) * 435;
+    let high = (x / 4294967296 % 4294967296) * 435;
     std::num::wrapping_add_u64(x << 40, std::num::wrapping_add_u64(low, high << 32))
 }
 
@@ -19,10 +19,15 @@ fn checksum(s: &[u8]) -> u64 {
     h
 }
 
+// A byte in two digits.
+fn digits(b: u8) {
+    io::print_hex(1, b as u64, 2);
+}
+
 fn hex(s: &[u8]) {
     let mut i = 0;
     while i < s.len() {
-        io::print_hex(1, s[i] as u64, 2);
+        digits(s[i]);
         i += 1;
     }
 }
