@@ -63,16 +63,16 @@ fn bounds(count: usize, quantifiers: &[(u16, u16)], under: usize) -> Vec<u8> {
     out
 }
 
-/// 64 terms, and further atoms that have no term of their own.
+/// At most 64 terms, and further atoms that have no term of their own. Under EVERY each copy stays open; under SOME one decides the whole.
 fn terms(atoms: usize, decided: bool) -> Vec<u8> {
     let mut out = Vec::new();
-    record(&mut out, 7, &0u16.to_le_bytes());
+    record(&mut out, if decided { 7 } else { 8 }, &0u16.to_le_bytes());
     list(&mut out, 6, atoms);
     for k in 0..atoms {
         if decided && k + 1 == atoms {
-            atom(&mut out, 3, row(&[(0, 1)], -64));
+            atom(&mut out, 3, row(&[(0, 3), (1, 1), (2, 2)], 63));
         } else {
-            atom(&mut out, 1, row(&[(0, 3), (1, 1 + (k % 3) as i32), (2, 2)], (k % 64) as i32));
+            atom(&mut out, 1, row(&[(0, 3), (1, 1), (2, 2)], (k % 64) as i32));
         }
     }
     out
@@ -154,7 +154,7 @@ fn main() {
     let heavy: Vec<(&str, Vec<u8>)> = vec![
         ("16 bounds, a long result", bounds(16, &[(7, 0)], 0)),
         ("the same under 12 lists of one", bounds(16, &[(7, 0)], 12)),
-        ("64 terms, 94 atoms, too long", terms(94, false)),
+        ("64 terms, 94 atoms", terms(94, false)),
         ("64 terms, 100 atoms, decided by the last", terms(100, true)),
         ("two quantifiers, a long second body", bounds(12, &[(7, 1), (7, 0)], 0)),
         ("three quantifiers, 4 atoms", nested(4)),
