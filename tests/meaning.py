@@ -1,24 +1,23 @@
 #!/usr/bin/env python3
-"""Asks the solver z3 whether sheets and the conditions that the second program delivers for them mean the same.
+"""Asks a solver whether sheets and the conditions that the archive delivers for them mean the same.
 
-Run, with z3 installed (Debian: apt-get install z3):
-    cargo build --release --offline --manifest-path tests/second/Cargo.toml
-    python3 tests/meaning.py [COUNT [SEED]]
+Run, with z3 or cvc5 installed (Debian: apt-get install z3 cvc5), after tests/run has built the comparison:
+    python3 tests/meaning.py [COUNT [SEED [SOLVER]]]      2,000 sheets, seed 1 and z3 unless given
 It takes the samples and then COUNT random sheets with a quantifier that come out with answer 0, half of them neither true nor false. A sheet
-and its result become terms of SMT-LIB, and z3 looks for values at which they differ: `unsat` means that they agree.
-It ends with an error if z3 finds such values; a question that z3 doesn't settle in time is counted and passed over.
+and its result become terms of SMT-LIB, and the solver looks for values at which they differ: `unsat` means that they agree.
+It ends with an error if there are such values; a question that isn't settled in time is counted and passed over.
 """
 
-import pathlib
+import shutil
 import struct
 import subprocess
 import sys
-import tempfile
 
-from trees import Dice, SECOND, container, random_sheet, second_lines
+from trees import Dice, HERE, container, random_sheet
 from make import SAMPLES
 
 SECONDS = 10
+ARCHIVE = HERE / "compare" / "target" / "release" / "compare"
 
 
 def smt_number(value):
@@ -58,50 +57,52 @@ def question(sheet, result):
     return "\n".join(lines)
 
 
-def solved(sheet, result):
-    run = subprocess.run(["z3", f"-T:{SECONDS}", "-in"], input=question(sheet, result), capture_output=True, text=True)
-    return run.stdout.strip()
+def solved(solver, sheet, result):
+    command = {"z3": ["z3", f"-T:{SECONDS}", "-in"], "cvc5": ["cvc5", "--lang=smt2", f"--tlimit={SECONDS * 1000}"]}[solver]
+    run = subprocess.run(command, input=question(sheet, result), capture_output=True, text=True)
+    return (run.stdout + run.stderr).strip()
 
 
-def result_of(sheet):
-    run = subprocess.run([SECOND, "result"], input=sheet, capture_output=True, check=True)
-    line, text = run.stdout.decode().split("\n")[:2]
-    return line.split(), bytes.fromhex(text)
+def delivered(sheets):
+    """What the archive delivers: for each sheet the words of its line and the result's bytes."""
+    run = subprocess.run([ARCHIVE, "deliver"], input=container(sheets), capture_output=True, check=True)
+    for line in run.stdout.decode().splitlines():
+        words = line.split()
+        yield words[:4], bytes.fromhex(words[4]) if len(words) > 4 else b""
 
 
 def candidates(count, seed):
-    """Random accepted sheets with a quantifier, half of them with verdict 2."""
+    """Random accepted sheets with a quantifier, half of them with verdict 2, and what the archive delivers."""
     dice, wanted = Dice(seed), {"0": count // 4, "1": count // 4, "2": count - count // 4 * 2}
-    with tempfile.TemporaryDirectory() as folder:
-        file = pathlib.Path(folder) / "cases"
-        while any(wanted.values()):
-            sheets = [random_sheet(dice) for _ in range(1000)]
-            file.write_bytes(container(sheets))
-            for sheet, line in zip(sheets, second_lines("eliminations", file), strict=True):
-                number, verdict = line.split()[:2]
-                if number == "0" and wanted[verdict] and ("exists" in smt_term(sheet)[0] or "forall" in smt_term(sheet)[0]):
-                    wanted[verdict] -= 1
-                    yield sheet
+    while any(wanted.values()):
+        sheets = [random_sheet(dice) for _ in range(1000)]
+        for sheet, (line, result) in zip(sheets, delivered(sheets), strict=True):
+            number, verdict = line[:2]
+            if number == "0" and wanted[verdict] and ("exists" in smt_term(sheet)[0] or "forall" in smt_term(sheet)[0]):
+                wanted[verdict] -= 1
+                yield sheet, line, result
 
 
 def main():
-    count = int(sys.argv[1]) if len(sys.argv) > 1 else 400
+    count = int(sys.argv[1]) if len(sys.argv) > 1 else 2000
     seed = int(sys.argv[2]) if len(sys.argv) > 2 else 1
+    solver = sys.argv[3] if len(sys.argv) > 3 else "z3"
+    if not shutil.which(solver):
+        sys.exit(f"{solver} is not installed: apt-get install {solver}")
+    samples = [sample[2] for sample in SAMPLES]
+    known = [(sheet, line, result) for sheet, (line, result) in zip(samples, delivered(samples), strict=True) if line[0] == "0"]
     agreed, open_questions = [0, 0, 0], 0
-    for sheet in [sample[2] for sample in SAMPLES] + list(candidates(count, seed)):
-        line, result = result_of(sheet)
-        if line[0] != "0":
-            continue
-        reply = solved(sheet, result)
+    for sheet, line, result in known + list(candidates(count, seed)):
+        reply = solved(solver, sheet, result)
         if reply == "unsat":
             agreed[int(line[1])] += 1
         elif reply == "sat":
             sys.exit(f"they differ: {sheet.hex()} and {result.hex()}")
-        elif reply in ("unknown", "timeout"):
+        elif "unknown" in reply or "timeout" in reply or "interrupted" in reply:
             open_questions += 1
         else:
-            sys.exit(f"z3 says: {reply}")
-    print(f"{sum(agreed)} sheets agree (false {agreed[0]}, true {agreed[1]}, other {agreed[2]}); {open_questions} not settled in time")
+            sys.exit(f"{solver} says: {reply[:300]}")
+    print(f"{solver}: {sum(agreed)} sheets agree (false {agreed[0]}, true {agreed[1]}, other {agreed[2]}); {open_questions} not settled in time")
 
 
 if __name__ == "__main__":

@@ -36,6 +36,7 @@ use Rattle.elimination.specs.declared.Copied.the-variants.{Decided, Kept
 use Rattle.elimination.specs.declared.Ran.{Ran}
 use Rattle.elimination.specs.declared.Ran.the-variants as Ran
 use Rattle.elimination.specs.declared.Reply.{Reply}
+use Rattle.elimination.proofs.Replacing.{sure-bytes}
 use Rattle.elimination.proofs.Lay.{length-lay, lay-take, lay-drop, lay-whole}
 use Rattle.elimination.proofs.Wide.{Wide, fits-wide, wide-fits}
 use Rattle.elimination.proofs.Fitting.{finishing-fits, finished-fits}
@@ -67,11 +68,6 @@ zeroed-after n b d d₀ h k e f =
     ∙ ap₂ (λ (x y : List ℕ). x ++ (zeros (n - length b) ++ y)) e (ap (λ (i : ℕ). drop i d) m ∙ f)
 
 -- ---- the finishing pass
-
-list-bytes : (v : Bool) → listBytes v 0 ≡ encode (list v none)
-unfolding listBytes encode recordBytes fieldBytes
-list-bytes true = refl
-list-bytes false = refl
 
 -- what comes out is the result, or true or false
 came : (q : Spot) (f : Formula) → q ≡ nowhere → Free f → fits nowhere (push false f) ≡ true → copied false q f ≡ comeOf (finished f)
@@ -124,7 +120,7 @@ module _ {n : ℕ} {cur : List ℕ} (u : Unquantified n cur) (q : Spot) (e : q �
   finish-sure x v cur′ h k =
       let long = u .stands .long in
       let g : finished (held n cur) ≡ list v none = came-sure (finished (held n cur)) used x v (h ∙ wrote .answer) in
-      let b : encode (finished (held n cur)) ≡ listBytes v 0 = ap encode g ∙ sym (list-bytes v) in
+      let b : encode (finished (held n cur)) ≡ listBytes v 0 = ap encode g ∙ sym (sure-bytes v) in
       record {
         answer = sym (ap length b);
         bytes = λ m. rw b (ap (take 6) k ∙ laid (listBytes v 0) cur (omega arith));

@@ -25,6 +25,7 @@ use Rattle.elimination.specs.Copies.{atomBy, copy, copyAll, fits, fitAll
 use Rattle.elimination.specs.Points.{midpoints, allMidpoints, points, terms, spotFits}
 use Rattle.elimination.specs.Steps.{copies, replacement, numbersFit, refusal}
 use Rattle.elimination.specs.Eliminate.{finished}
+use Rattle.elimination.proofs.Walking as Walking
 use Rattle.elimination.proofs.Wide.{Wide, AllWide, wide-more}
 
 -- two tests that both pass
@@ -35,17 +36,13 @@ both false b e = let z : _≡_ {A = ℕ} 0 1 = cc in absurd (omega arith)
 -- ---- rows of nine numbers in −M..M
 
 -- as the ranges of a record say it, and as the laws of rows do
-all-each-of : (l : List ℤ) → AllM l → Each M l
-all-each-of [] w = each-nil
-all-each-of (z ∷ l) w = each-cons (record { size = w .0 }) (all-each-of l (w .1))
-
 each-all-of : (l : List ℤ) → Each M l → AllM l
 each-all-of [] e = tt
 each-all-of (z ∷ l) e = (e .at 0 .size, each-all-of l (each-tail e))
 
 -- each sign turned
 minus-range : (c : Comparison) (l : List ℤ) → InRange (atomL c l) → InRange (atomL c (minus l))
-minus-range c l w = (length-minus l ∙ w .0, each-all-of (minus l) (each-minus (all-each-of l (w .1))))
+minus-range c l w = (length-minus l ∙ w .0, each-all-of (minus l) (each-minus (Walking.each-all l (w .1))))
 
 -- the two atoms of a WINDOW
 single-range : (c : Comparison) (v : ℕ) (a z : ℤ) → natAbs a ≤ M → natAbs z ≤ M → InRange (atomL c (single v a z))
@@ -333,7 +330,7 @@ settled-fitting c ns w = go (noVariable ns)
   where
     go : (b : Bool) → fitting (pick b (sure (holds c (at ns 8))) (new (reduced ns))) ≡ true
     go true = refl
-    go false = each-all (each-reduced (all-each-of ns w))
+    go false = each-all (each-reduced (Walking.each-all ns w))
 
 mutual
   unfolding fits atomAt
@@ -353,11 +350,7 @@ mutual
 pub finishing-fits : (d : ℕ) (f : Formula) → Wide d f → Free f → fits nowhere (push false f) ≡ true
 finishing-fits d f w h = pushed-finishes d (push false f) (push-fits false d f w h)
 
--- what the finishing pass makes is within the limits, and has no quantifier
+-- what the finishing pass makes is within the limits
 pub finished-fits : (d : ℕ) (f : Formula) → Wide d f → Free f → Wide d (finished f)
 unfolding finished
 finished-fits d f w h = copy-fits nowhere d f w h (finishing-fits d f w h)
-
-pub finished-free : (f : Formula) → Free f → Free (finished f)
-unfolding finished
-finished-free f h = copy-free nowhere false f h

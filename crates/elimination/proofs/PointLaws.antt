@@ -26,6 +26,7 @@ use Rattle.elimination.specs.Listing.{Lists, Next}
 use Rattle.elimination.specs.Stepping.{tryAt, tallyAll}
 use Rattle.elimination.specs.Trying.{Holding, Tries}
 use Rattle.elimination.specs.declared.Copies.{Copies}
+use Rattle.elimination.proofs.TermLaws.{each-take, each-drop}
 use Rattle.elimination.proofs.Members.{at-opened}
 
 -- ---- the tally over spots
@@ -135,11 +136,6 @@ pub part-is : (ts : List ℤ) (i : ℕ) → take (10 * i + 10 - 10 * i) (drop (1
 part-is ts i = let e : 10 * i + 10 - 10 * i ≡ 10 = omega arith in ap (λ (n : ℕ). take n (drop (10 * i) ts)) e
 
 -- the first numbers of a small row are small
-row-each : (k : ℕ) (l : List ℤ) → Each M l → Each M (take k l)
-row-each zero l e = each-nil
-row-each (suc k) [] e = each-nil
-row-each (suc k) (z ∷ l) e = each-cons (e .at 0) (row-each k l (each-tail e))
-
 module _ {ts : List ℤ} {n : ℕ} (t : Table ts n) (i : ℕ) (h : i < n) where
   pub part-long : length (take (10 * i + 10 - 10 * i) (drop (10 * i) ts)) ≡ 10
   part-long =
@@ -147,7 +143,7 @@ module _ {ts : List ℤ} {n : ℕ} (t : Table ts n) (i : ℕ) (h : i < n) where
       ap length (part-is ts i) ∙ length-take-le 10 (drop (10 * i) ts) k
 
   row-small : Each M (rowAt ts i)
-  row-small = row-each 10 (drop (10 * i) ts) (record { at = λ j. subst (Within M) (sym (getD-drop (10 * i) ts j (pos 0))) (t .small .at (10 * i + j)) })
+  row-small = each-take 10 (drop (10 * i) ts) (each-drop (10 * i) ts (t .small))
 
   pub part-small : Each M (take (10 * i + 10 - 10 * i) (drop (10 * i) ts))
   part-small = subst (Each M) (sym (part-is ts i)) row-small

@@ -29,6 +29,7 @@ use Rattle.elimination.specs.declared.Copied.the-variants.{Decided, Kept
 use Rattle.elimination.specs.declared.Copies.{Copies}
 use Rattle.elimination.specs.declared.Gathered.{Gathered}
 use Rattle.elimination.specs.declared.Gathered.the-variants.{Fine, Full}
+use Rattle.elimination.proofs.PointLaws.{tally-over}
 use Rattle.elimination.proofs.Lay.{lay-take}
 use Rattle.elimination.proofs.Members.{big-is}
 use Rattle.elimination.proofs.Sources.{four-long}
@@ -36,11 +37,6 @@ use Rattle.elimination.proofs.OnePass.{joins-none, or-false, one, sums,
 use Rattle.elimination.proofs.Joining.{over-long}
 
 -- ---- the tally of the copies
-
-tally-over : (all : Bool) (qs : List Spot) (f : Formula) → tallyAll all over qs f ≡ over
-unfolding tallyAll
-tally-over all [] f = refl
-tally-over all (q ∷ qs) f = tally-over all qs f
 
 tally-from : (all : Bool) (f : Formula) → Free f → (x : Bool) (gs : Formulas) (qs : List Spot)
     → tallyAll all (going x gs) qs f ≡ sums (numbersFit qs (push false f)) x (decidedBy all (copies qs (push false f))) gs (stay (copies qs (push false f)))
@@ -165,7 +161,7 @@ fine-found x f ts₀ {used} {ts} {r} {u} {n} g e = go (leb (length (gather x f (
 
 -- ---- what stands in the output once the list of copies is closed
 
-sure-bytes : (v : Bool) → listBytes v 0 ≡ encode (list v none)
+pub sure-bytes : (v : Bool) → listBytes v 0 ≡ encode (list v none)
 unfolding listBytes encode recordBytes fieldBytes
 sure-bytes true = refl
 sure-bytes false = refl

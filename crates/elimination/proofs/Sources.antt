@@ -12,7 +12,7 @@ use Rattle.reading.specs.Reading.{treeOf, Begins}
 use Rattle.reading.specs.Limits.{resultLevels}
 use Rattle.reading.proofs.Laws.{two, kind-small}
 use Rattle.reading.proofs.Reading.{part-drop}
-use Rattle.reading.proofs.Trees.{fits-more, tree-is}
+use Rattle.reading.proofs.Trees.{fits-more, tree-is, begins-tree}
 use Rattle.exact.specs.declared.Point.{Point}
 use Rattle.exact.specs.Atoms.{Spot, spotOf}
 use Rattle.elimination.specs.Pushing.{flip}
@@ -22,10 +22,7 @@ use Rattle.elimination.proofs.Members.{used-le, wrote-after, list-long}
 
 -- ---- trees in bytes
 
-pub tree-begins : {s : List ℕ} {f : Formula} → Begins s f → Begins s (treeOf s)
-tree-begins {s} {f} b = subst (Begins s) (sym (tree-is b)) b
-
-begins-long : {s : List ℕ} {f : Formula} → Begins s f → length (encode f) ≤ length s
+pub begins-long : {s : List ℕ} {f : Formula} → Begins s f → length (encode f) ≤ length s
 begins-long {s} {f} b = omega (arith, ap length (b .bytes), length-append (encode f) (b .rest))
 
 -- the number of the kind of its record
@@ -138,7 +135,7 @@ module _ {s : List ℕ} {q : Point} {to n : ℕ} (a : Asks s q to n) (h : le2 s 
   inside-begins = subst (λ (y : List ℕ). Begins y (inside .inner)) (sym (part-drop 4 s)) (inside .begins)
 
   pub under-asks : Asks (take (length s - 4) (drop 4 s)) q to n
-  under-asks = record { begins = tree-begins inside-begins; free = subst Free (sym (tree-is inside-begins)) (inside .free); point = a .point; room = omega (arith, a .room, inside .long, ap (λ (y : Formula). length (encode y)) (tree-is inside-begins)) }
+  under-asks = record { begins = begins-tree inside-begins; free = subst Free (sym (tree-is inside-begins)) (inside .free); point = a .point; room = omega (arith, a .room, inside .long, ap (λ (y : Formula). length (encode y)) (tree-is inside-begins)) }
 
   pub under-used : (c : Come) (o₀ o : List ℕ) (r : Copied) → Wrote c (length (encode (treeOf (take (length s - 4) (drop 4 s))))) to o₀ o r → 4 + usedOf r ≤ length s
   under-used c o₀ o r w = omega (arith, used-le c _ to o₀ o r w, inside .long, ap (λ (y : Formula). length (encode y)) (tree-is inside-begins), asks-long a)

@@ -22,9 +22,7 @@ use Rattle.reading.proofs.Trees.{tree-is, begins-tree}
 use Rattle.exact.specs.Numbers.{at, tab, Within, Each, isZero, sameRow}
 use Rattle.exact.specs.Terms.{termOf, boundOf}
 use Rattle.exact.proofs.Loops.{length-tab}
-use Rattle.exact.proofs.Rows.{each-nil, each-cons, each-tail, each-reduced}
-use Rattle.exact.proofs.Sizes.{in-lit}
-use Rattle.exact.proofs.Terms.{each-raw}
+use Rattle.exact.proofs.Rows.{each-nil, each-cons, each-tail}
 use Rattle.elimination.specs.declared.Gathered.{Gathered}
 use Rattle.elimination.specs.declared.Gathered.the-variants.{Fine, Full}
 use Rattle.elimination.specs.Points.{insert, gather, gatherAll}
@@ -116,17 +114,6 @@ each-take (suc k) (z ∷ l) h = each-cons (h .at 0) (each-take k l (each-tail h)
 
 pub each-drop : {n : ℕ} (k : ℕ) (l : List ℤ) → Each n l → Each n (drop k l)
 each-drop {n} k l h = record { at = λ i. subst (Within n) (sym (getD-drop k l i (pos 0))) (h .at (k + i)) }
-
--- a term's numbers
-pub each-term : {ns : List ℤ} (x : ℕ) → Each M ns → Each M (termOf ns x)
-unfolding termOf
-each-term x h = each-reduced (each-raw x h)
-
-pub each-bound : {c : ℤ} → Within M c → Each M (boundOf c)
-unfolding boundOf
-each-bound h =
-    let o : Within M (pos 0) = in-lit tt in
-    each-cons o (each-cons o (each-cons o (each-cons o (each-cons o (each-cons o (each-cons o (each-cons o (each-cons h (each-cons (in-lit tt) each-nil)))))))))
 
 -- ---- a row that is put into the table
 

@@ -12,7 +12,7 @@ use Rattle.reading.specs.Reading.{treeOf, Begins}
 use Rattle.reading.specs.Limits.{resultLevels}
 use Rattle.reading.proofs.Laws.{two}
 use Rattle.reading.proofs.Reading.{part-drop}
-use Rattle.reading.proofs.Trees.{tree-is, all-fit-more}
+use Rattle.reading.proofs.Trees.{tree-is, all-fit-more, begins-tree}
 use Rattle.exact.specs.declared.Point.{Point}
 use Rattle.exact.specs.Atoms.{Ready, Spot, spotOf}
 use Rattle.elimination.specs.Pushing.{under}
@@ -20,7 +20,7 @@ use Rattle.elimination.specs.Copying.{Come, big, Tally, over, going, add
 use Rattle.elimination.specs.declared.Copied.{Copied}
 use Rattle.elimination.specs.declared.Open.{Open}
 use Rattle.elimination.proofs.Members.{none-long, encodes-more, more-long, list-long, used-is, used-le}
-use Rattle.elimination.proofs.Sources.{tree-begins, kind-is}
+use Rattle.elimination.proofs.Sources.{kind-is}
 use Rattle.elimination.proofs.Sizes.{copy-size}
 use Rattle.elimination.proofs.Progress.{Progress, progress-open, progress-next, progress-big, progress-space, progress-end}
 
@@ -132,7 +132,7 @@ module _ {s : List ℕ} {neg : Bool} {q : Point} {to : ℕ} {o₀ o : List ℕ} 
   turn-asks none t h w = absurd (omega (arith, t .many))
   turn-asks (more f fs) t h w =
       let b = member-begins t in
-      record { begins = tree-begins b; free = subst Free (sym (tree-is b)) (t .free .0); point = w; room = omega (arith, t .room, t .written .end, more-long f fs, ap (λ (y : Formula). length (encode y)) (tree-is b)) }
+      record { begins = begins-tree b; free = subst Free (sym (tree-is b)) (t .free .0); point = w; room = omega (arith, t .room, t .written .end, more-long f fs, ap (λ (y : Formula). length (encode y)) (tree-is b)) }
 
   pub turn-used : (fs : Formulas) (o′ : List ℕ) (r : Copied) → Turn s neg q to o₀ o l at left fs → 0 < left → Answers s neg q o l at o′ r → at + usedOf r ≤ length (encode (treeOf s))
   turn-used none o′ r t h w = absurd (omega (arith, t .many))

@@ -1,5 +1,5 @@
 -- A pass over the bytes of a formula without quantifiers: what an atom's and a window's bytes say, and the members of a list one after the other.
--- Gathering terms and the test at fractions both walk so. Assumes nothing.
+-- Copies, gathering terms and the test at fractions all walk so. Assumes nothing.
 use mathlib.Core.Path.{_≡_, refl, sym, _∙_, ap, ap₂, subst}
 use mathlib.Core.Bool.{Bool, true, false}
 use mathlib.Core.List.{List, [], _∷_, _++_, append-assoc}
@@ -19,16 +19,13 @@ use Rattle.exact.specs.Numbers.{Within, Each}
 use Rattle.exact.proofs.Rows.{each-nil, each-cons}
 use Rattle.elimination.specs.Copying.{IsLeaf, IsList}
 use Rattle.elimination.proofs.Members.{none-long, encodes-more, more-long, list-long}
-use Rattle.elimination.proofs.Sources.{formulaKind, kind-is}
+use Rattle.elimination.proofs.Sources.{begins-long, formulaKind, kind-is}
 use Rattle.elimination.proofs.Settling.{atom-long}
 use Rattle.elimination.proofs.Sizes.{window-long}
 
-pub begins-long : {s : List ℕ} {f : Formula} → Begins s f → length (encode f) ≤ length s
-begins-long {s} {f} b = omega (arith, ap length (b .bytes), length-append (encode f) (b .rest))
-
 -- ---- an atom and a window in bytes
 
-each-all : (l : List ℤ) → AllM l → Each M l
+pub each-all : (l : List ℤ) → AllM l → Each M l
 each-all [] w = each-nil
 each-all (z ∷ l) w = each-cons (record { size = w .0 }) (each-all l (w .1))
 
@@ -77,14 +74,16 @@ window-bytes v lo hi u h w =
     let x = window-read s lo hi (ints-read (lo ∷ hi ∷ []) (bytes2 14 ++ bytes2 9 ++ bytes2 v) u 6 refl w) in
     (two v (omega arith), x .0, x .1)
 
-pub window-is : {s : List ℕ} (f : Formula) → Begins s f → IsLeaf f → formulaKind f ≡ 9 → IsWindow s f
-window-is (atom less ns) b i n = absurd (omega arith)
-window-is (atom atmost ns) b i n = absurd (omega arith)
-window-is (atom equal ns) b i n = absurd (omega arith)
-window-is (not f) b i n = absurd i
-window-is (list b fs) e i n = absurd i
-window-is (quant b v f) e i n = absurd i
-window-is {s} (window v lo hi) b i n =
+pub window-is : {s : List ℕ} (f : Formula) → Begins s f → formulaKind f ≡ 9 → IsWindow s f
+window-is (atom less ns) b n = absurd (omega arith)
+window-is (atom atmost ns) b n = absurd (omega arith)
+window-is (atom equal ns) b n = absurd (omega arith)
+window-is (not f) b n = absurd (omega arith)
+window-is (list true fs) b n = absurd (omega arith)
+window-is (list false fs) b n = absurd (omega arith)
+window-is (quant true v f) b n = absurd (omega arith)
+window-is (quant false v f) b n = absurd (omega arith)
+window-is {s} (window v lo hi) b n =
     let w = b .fits in
     let x = window-bytes v lo hi (b .rest) (w .1 .0) (w .1 .1) in
     let e : le2 s 4 ≡ v = ap (λ (l : List ℕ). le2 l 4) (b .bytes) ∙ x .0 in

@@ -1,5 +1,8 @@
-//! compare [COUNT [SEED]]: COUNT random sheets through the archive and through the second program; number, verdict, place, length and every byte
-//! of both buffers must agree, and so must reading, look and test. A difference ends the run and saves the sheet beside this command's caller.
+//! The archive, called as C calls it.
+//!     compare agree [COUNT [SEED]]   COUNT random sheets through the archive and the second program: number, verdict, place, length and every byte of
+//!                                    both buffers must agree, and so must reading, look and test. A difference ends the run and saves the sheet.
+//!     compare storm CALLS SEED       random bytes through every export; nothing is compared, but nothing may be touched that is not the caller's
+//!     compare deliver < CASES        a line a case (its length in four bytes, then its bytes): answer, verdict, place, length, result in hex
 
 mod archive;
 mod sheets;
@@ -13,6 +16,12 @@ struct Room {
     sheet: Guarded,
     result: Guarded,
     work: Guarded,
+}
+
+impl Room {
+    fn new() -> Room {
+        Room { sheet: Guarded::new(70_000), result: Guarded::new(75_000), work: Guarded::new(75_000) }
+    }
 }
 
 fn differ(sheet: &[u8], what: &str) -> ! {
@@ -92,16 +101,10 @@ fn tests(r: &mut Random, room: &mut Room, sheet: &[u8]) -> u64 {
     mine.verdict
 }
 
-fn main() {
-    let words: Vec<String> = std::env::args().collect();
-    let count: u64 = words.get(1).map_or(20_000, |w| w.parse().expect("COUNT is a number"));
-    let seed: u64 = words.get(2).map_or_else(
-        || std::time::SystemTime::now().duration_since(std::time::UNIX_EPOCH).expect("a clock").as_nanos() as u64,
-        |w| w.parse().expect("SEED is a number"),
-    );
+fn agree(count: u64, seed: u64) {
     println!("seed {seed}");
     let mut r = Random(seed);
-    let mut room = Room { sheet: Guarded::new(70_000), result: Guarded::new(75_000), work: Guarded::new(75_000) };
+    let mut room = Room::new();
     let mut answers = [0u64; 15];
     let mut truths = [0u64; 4];
     for _ in 0..count {
@@ -115,9 +118,57 @@ fn main() {
             truths[tests(&mut r, &mut room, &result) as usize] += 1;
         }
     }
-    println!("{count} sheets agree; answers 0 to 14: {answers:?}; delivered conditions tested false, true, -, refused: {truths:?}");
-    if (0..=12).any(|n| answers[n] == 0) && count >= 20_000 {
+    println!("{count} sheets agree; answers 0 to 12: {:?}; results tested false, true and refused: {}, {}, {}", &answers[..13], truths[0], truths[1], truths[3]);
+    if count >= 3000 && answers[..13].contains(&0) {
         println!("an answer from 0 to 12 was never met");
         std::process::exit(1);
+    }
+}
+
+fn storm(calls: u64, seed: u64) {
+    println!("seed {seed}");
+    let mut r = Random(seed);
+    let mut room = Room::new();
+    let mut done = 0;
+    while done < calls {
+        let sheet = sheets::bytes(&mut r);
+        let bytes = room.sheet.filled(&sheet);
+        archive::read(bytes);
+        archive::look(bytes);
+        archive::test(bytes, std::array::from_fn(|_| r.next() as i64 >> r.below(63)));
+        let length = if r.once_in(50) { BUFFER } else { r.below(BUFFER as u64) as usize };
+        archive::eliminate(bytes, room.result.slice(length), room.work.slice(length));
+        assert!(room.sheet.slice(sheet.len()) == &sheet[..], "a sheet was written to");
+        done += 4;
+    }
+    println!("{done} calls on random bytes, each with a reply");
+}
+
+fn deliver() {
+    let mut cases = Vec::new();
+    std::io::Read::read_to_end(&mut std::io::stdin(), &mut cases).expect("cases on standard input");
+    let (mut result, mut work) = (vec![0; BUFFER], vec![0; BUFFER]);
+    let mut rest = &cases[..];
+    while rest.len() >= 4 {
+        let n = u32::from_le_bytes(rest[..4].try_into().unwrap()) as usize;
+        let reply = archive::eliminate(&rest[4..4 + n], &mut result, &mut work);
+        let hex: String = result[..reply.length as usize].iter().map(|b| format!("{b:02x}")).collect();
+        println!("{} {} {} {} {hex}", reply.number, reply.verdict, reply.place, reply.length);
+        rest = &rest[4 + n..];
+    }
+}
+
+fn main() {
+    let words: Vec<String> = std::env::args().collect();
+    let number = |i: usize| words.get(i).map(|w| w.parse().expect("a number"));
+    let now = || std::time::SystemTime::now().duration_since(std::time::UNIX_EPOCH).expect("a clock").as_nanos() as u64;
+    match words.get(1).map(String::as_str) {
+        Some("agree") => agree(number(2).unwrap_or(20_000), number(3).unwrap_or_else(now)),
+        Some("storm") => storm(number(2).unwrap_or(1_000_000), number(3).unwrap_or_else(now)),
+        Some("deliver") => deliver(),
+        _ => {
+            eprintln!("compare agree [COUNT [SEED]] | storm CALLS SEED | deliver < CASES");
+            std::process::exit(2);
+        }
     }
 }

@@ -234,6 +234,19 @@ fn noise(r: &mut Random) -> Vec<u8> {
     (0..r.below(120)).map(|_| if r.once_in(2) { r.below(10) as u8 } else { r.next() as u8 }).collect()
 }
 
+/// Bytes of no sense, or a small sheet with a byte changed here and there.
+pub fn bytes(r: &mut Random) -> Vec<u8> {
+    if r.once_in(2) {
+        return noise(r);
+    }
+    let mut out = deep(r);
+    for _ in 0..r.below(3) {
+        let at = r.below(out.len() as u64) as usize;
+        out[at] = r.next() as u8;
+    }
+    out
+}
+
 pub fn sheet(r: &mut Random) -> Vec<u8> {
     match r.below(40) {
         0..=21 => valid(r),

@@ -12,8 +12,8 @@ use Rattle.reading.specs.Reading.{treeOf}
 use Rattle.elimination.specs.Points as points
 use Rattle.elimination.specs.Gathering.{rowsOf, usedOf, countOf, Gathers, Collected}
 use Rattle.elimination.specs.declared.Gathered.{Gathered}
-use Rattle.elimination.proofs.Sources.{formulaKind, kind-is, kind-leaf, kind-list, four-long, part-long}
-use Rattle.elimination.proofs.Walking.{begins-long, walk-start}
+use Rattle.elimination.proofs.Sources.{begins-long, formulaKind, kind-is, kind-leaf, kind-list, four-long, part-long}
+use Rattle.elimination.proofs.Walking.{walk-start}
 use Rattle.elimination.proofs.TermLaws.{not-gathers, not-used, not-collected, Goes, gather-start, turn-gathers, turn-used, turn-next, turn-full, turn-end}
 use Prim.Native.Nat.{ℕ, _<_}
 use borrow.Fn.Kinds.{In}

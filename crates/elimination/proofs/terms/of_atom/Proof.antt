@@ -14,7 +14,8 @@ use Rattle.exact.proofs.Atoms.{zero-is, zero-not}
 use Rattle.elimination.specs.Points.{insert}
 use Rattle.elimination.specs.Gathering.{rowsOf, Collected}
 use Rattle.elimination.specs.declared.Gathered.the-variants.{Fine}
-use Rattle.elimination.proofs.TermLaws.{each-term, rows-long, collected-fine}
+use Rattle.exact.proofs.Terms.{each-term}
+use Rattle.elimination.proofs.TermLaws.{rows-long, collected-fine}
 use borrow.Author.Needs.{needs}
 use Rattle.elimination.proofs.terms.of_atom.Statement.{statement}
 use Rattle.elimination.proofs.terms.of_atom.Tie as tie

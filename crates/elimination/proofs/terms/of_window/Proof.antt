@@ -19,7 +19,8 @@ use Rattle.elimination.specs.Points.{insert}
 use Rattle.elimination.specs.Gathering.{rowsOf, countOf, Table, Collected}
 use Rattle.elimination.specs.declared.Gathered.{Gathered}
 use Rattle.elimination.specs.declared.Gathered.the-variants.{Fine, Full}
-use Rattle.elimination.proofs.TermLaws.{each-bound, rows-long, collected-fine, collected-full, full-is, insert-grows, table-next}
+use Rattle.exact.proofs.Terms.{each-bound}
+use Rattle.elimination.proofs.TermLaws.{rows-long, collected-fine, collected-full, full-is, insert-grows, table-next}
 use borrow.Author.Needs.{needs}
 use Rattle.elimination.proofs.terms.of_window.Statement.{statement}
 use Rattle.elimination.proofs.terms.of_window.Tie as tie

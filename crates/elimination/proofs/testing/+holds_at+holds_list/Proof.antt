@@ -14,8 +14,8 @@ use Rattle.elimination.specs.declared.Holds.{Holds}
 use Rattle.elimination.specs.Testing.{join}
 use Rattle.elimination.specs.Copying.{IsList}
 use Rattle.elimination.specs.Holding.{Tries}
-use Rattle.elimination.proofs.Sources.{formulaKind, kind-is, kind-leaf, kind-list, four-long, part-long}
-use Rattle.elimination.proofs.Walking.{begins-long, walk-start}
+use Rattle.elimination.proofs.Sources.{begins-long, formulaKind, kind-is, kind-leaf, kind-list, four-long, part-long}
+use Rattle.elimination.proofs.Walking.{walk-start}
 use Rattle.elimination.proofs.TestLaws.{not-tries, not-within, not-holds, Goes, holds-start, turn-tries, turn-within, turn-next, turn-end}
 use Prim.Native.Nat.{ℕ, _<_}
 use borrow.Fn.Kinds.{In}

@@ -10,8 +10,8 @@ use Rattle.exact.specs.Atoms.{holds, comparisonOf}
 use Rattle.exact.proofs.Sizes.{rd, ok}
 use Rattle.elimination.specs.Testing.{sumAt}
 use Rattle.elimination.proofs.Settling.{comparison-range}
-use Rattle.elimination.proofs.Sources.{kind-is, four-long}
-use Rattle.elimination.proofs.Walking.{begins-long, IsAtom, IsWindow, atom-is, window-is}
+use Rattle.elimination.proofs.Sources.{begins-long, kind-is, four-long}
+use Rattle.elimination.proofs.Walking.{IsAtom, IsWindow, atom-is, window-is}
 use Rattle.elimination.proofs.TestLaws.{holds-atom, holds-window}
 use borrow.Author.Needs.{needs}
 use Rattle.elimination.proofs.testing.holds_leaf.Statement.{statement}
@@ -31,7 +31,7 @@ u16-at-requires c κs =
 
 -- what the bytes are: a window, or an atom
 a-window : (c : tie.Then1) → let a = c .before .before .before in IsWindow (a .args .s .now) (treeOf (a .args .s .now))
-a-window c = let a = c .before .before .before in window-is (treeOf (a .args .s .now)) (a .pre .0 .begins) (a .pre .1) (sym (kind-is (a .pre .0 .begins)) ∙ sym (c .before .u16-at .ensures) ∙ c .if1 .taken)
+a-window c = let a = c .before .before .before in window-is (treeOf (a .args .s .now)) (a .pre .0 .begins) (sym (kind-is (a .pre .0 .begins)) ∙ sym (c .before .u16-at .ensures) ∙ c .if1 .taken)
 
 an-atom : (c : tie.Else1) → let a = c .before .before .before in IsAtom (a .args .s .now) (treeOf (a .args .s .now))
 an-atom c = let a = c .before .before .before in atom-is (treeOf (a .args .s .now)) (a .pre .0 .begins) (a .pre .1) (λ q. c .if1 .left (c .before .u16-at .ensures ∙ kind-is (a .pre .0 .begins) ∙ q))
