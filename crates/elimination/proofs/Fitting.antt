@@ -247,9 +247,6 @@ mutual
   all-copied-free q none h = tt
   all-copied-free q (more f fs) h = (copied-free q f (h .0), all-copied-free q fs (h .1))
 
-pub copy-free : (q : Spot) (neg : Bool) (f : Formula) → Free f → Free (copy q (push neg f))
-copy-free q neg f h = copied-free q (push neg f) (push-free neg f h)
-
 -- ---- the list of the copies
 
 midpoints-long : (x : ℕ) (t : List ℤ) (us : List (List ℤ)) → length (midpoints x t us) ≡ length us

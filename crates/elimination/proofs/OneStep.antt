@@ -69,10 +69,6 @@ last-wide d f p b v g e w =
     let l = last-is f p b v g e in
     part-wide d (l .0) (quant b v g) (subst (Wide d) (l .1 .is) w)
 
--- its body fits, and has no quantifier
-pub body-fits : (d : ℕ) (f : Formula) (p : ℕ) (b : Bool) (v : ℕ) (g : Formula) → lastIn f ≡ at p b v g → Wide d f → Fits d g × Free g
-body-fits d f p b v g e w = (wide-fits g d (wide-more g (d - 1) d (omega arith) (last-wide d f p b v g e w .2)), last-free f p b v g e)
-
 -- a step that is not refused keeps the limits
 pub step-wide : (d : ℕ) (f : Formula) (p : ℕ) (b : Bool) (v : ℕ) (g : Formula) → lastIn f ≡ at p b v g → refusal v g (step f) ≡ 0 → Wide d f → Wide d (step f)
 step-wide d f p b v g e r w =

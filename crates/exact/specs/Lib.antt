@@ -1,3 +1,4 @@
+-- 01's numbers: rows, divisors, boundary terms and midpoints, an atom at a point.
 pub mod Numbers
 pub mod Divisor
 pub mod Terms

@@ -1,3 +1,4 @@
+-- The terms of a formula: the walk of `Walking`, with the table as it is so far. The bytes that are left fall at each call.
 use borrow.Author.Needs.{needs}
 use native.Mathlib.Omega.{arith}
 use mathlib.Core.Path.{_≡_, refl, sym, ap, subst, _∙_}

@@ -1,3 +1,4 @@
+-- A term that is there already changes nothing; another is one row more, or one too many.
 use mathlib.Core.Path.{_≡_, sym, _∙_, subst}
 use mathlib.Core.List.{List}
 use Prim.Native.Nat.{_+_}

@@ -1,3 +1,4 @@
+-- What was gathered, with the bytes of a record before it.
 use mathlib.Core.Path.{_≡_, sym, ap}
 use native.Mathlib.Omega.{arith}
 use borrow.Author.Needs.{needs}

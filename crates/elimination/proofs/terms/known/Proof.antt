@@ -1,3 +1,4 @@
+-- The rows are compared from the front: what is not among those so far is among those left.
 use borrow.Author.Needs.{needs}
 use mathlib.Core.Path.{_≡_, refl, sym, _∙_, ap, subst}
 use mathlib.Core.Bool.{Bool, true, false}

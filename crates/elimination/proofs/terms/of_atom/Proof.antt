@@ -1,3 +1,4 @@
+-- The term of an atom, where the variable occurs.
 use mathlib.Core.Path.{_≡_, refl, sym, _∙_, ap, subst}
 use mathlib.Core.Bool.{Bool, true, false}
 use mathlib.Core.List.{List}

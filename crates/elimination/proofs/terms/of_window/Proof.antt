@@ -1,3 +1,4 @@
+-- The two terms of a window on the variable, lo and then hi.
 use mathlib.Core.Path.{_≡_, refl, sym, _∙_, ap, subst}
 use mathlib.Core.Bool.{Bool, true, false}
 use mathlib.Core.List.{List}

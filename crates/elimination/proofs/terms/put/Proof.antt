@@ -1,3 +1,4 @@
+-- Ten numbers are stored from the front, and nothing else changes.
 use borrow.Author.Needs.{needs}
 use mathlib.Core.Path.{_≡_, refl, sym, _∙_, ap, ap₂, subst}
 use mathlib.Core.List.{List}

@@ -1,3 +1,4 @@
+-- A formula at the values: the walk of `Walking`, and what is true of the members so far. The bytes that are left fall at each call.
 use borrow.Author.Needs.{needs}
 use native.Mathlib.Omega.{arith}
 use mathlib.Core.Path.{_≡_, sym, ap, subst, _∙_}

@@ -1,3 +1,4 @@
+-- One product more of a sum: it fits sixty-four bits.
 use mathlib.Core.Path.{_∙_, ap₂}
 use lib.IntN.{_+ℤ_, _*ℤ_}
 use Rattle.exact.proofs.Sizes.{rd, fits-as, fits, in-*, in-+}

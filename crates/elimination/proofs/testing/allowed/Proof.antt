@@ -1,3 +1,4 @@
+-- Nine tests, one after the other, and the denominator above 0.
 use borrow.Author.Needs.{needs}
 use mathlib.Core.Path.{_≡_, sym, _∙_, ap, ap₂, subst}
 use mathlib.Core.Bool.{Bool, true, false, _&&_}

@@ -1,3 +1,4 @@
+-- NOT turns the truth and has four bytes.
 use mathlib.Core.Path.{sym, ap}
 use mathlib.Core.Bool.{Bool}
 use Prim.Native.Nat.{_+_}

@@ -1,3 +1,4 @@
+-- An atom or a window at the values: what its bytes say, by `Walking`.
 use mathlib.Core.Path.{_≡_, sym, _∙_, ap, ap₂, subst}
 use mathlib.Core.List.{List}
 use Prim.Native.Nat.{ℕ}

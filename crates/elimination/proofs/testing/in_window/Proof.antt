@@ -1,3 +1,4 @@
+-- Both ends of a window, times the denominator, fit sixty-four bits.
 use mathlib.Core.Path.{_≡_, sym, _∙_, ap, ap₂, subst}
 use mathlib.Core.Bool.{Bool, true, false, _&&_}
 use lib.IntN.{ℤ, pos, _+ℤ_, _*ℤ_, +ℤ-idl}

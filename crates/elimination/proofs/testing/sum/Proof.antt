@@ -1,3 +1,4 @@
+-- The sum of nine products, from the front; its size is a law, not part of what the loop keeps.
 use borrow.Author.Needs.{needs}
 use mathlib.Core.Path.{_≡_, sym, _∙_, ap₂, subst}
 use Prim.Native.Nat.{_+_, _-_, _≤_, zero-le}

@@ -1,3 +1,4 @@
+-- The order of the answers: what reading refuses, then a quantifier, then the values, then the truth.
 use mathlib.Core.Path.{_≡_, sym, _∙_, ap, subst}
 use mathlib.Core.Bool.{Bool, true, false}
 use Prim.Native.Nat.{ℕ}

@@ -1,3 +1,4 @@
+-- Bytes are stored from the front: what is left to store, laid over what is there, is the same at each turn.
 use mathlib.Core.Path.{_≡_, refl, _∙_}
 use Prim.Native.Nat.{ℕ, _+_, _-_, _≤_}
 use native.Mathlib.Omega.{arith}
