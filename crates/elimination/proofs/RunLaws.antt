@@ -19,7 +19,6 @@ use Rattle.elimination.specs.Steps.{quantifiers, step, refusal, Run, ran
 use Rattle.elimination.specs.Stepping.{held, Stands, refusalAt, steppedOf, Steps, ranOf, Runs}
 use Rattle.elimination.specs.Running.{isAt, offsetOf, numberOf, lengthOf}
 use Rattle.elimination.specs.declared.Stepped.{Stepped}
-use Rattle.elimination.specs.declared.Stepped.the-variants as Stepped
 use Rattle.elimination.specs.declared.Ran.{Ran}
 use Rattle.elimination.specs.declared.Ran.the-variants as Ran
 use Rattle.elimination.proofs.Wide.{Wide, fits-wide, wide-fits}

@@ -3,36 +3,25 @@ use lib.Seq.{length-take-le}
 use borrow.Author.Needs.{needs}
 use Rattle.cases.proofs.fetch.Statement.{statement}
 use Rattle.cases.proofs.fetch.Tie as tie
-use Rattle.cases.proofs.fetch.Reads as reads
-use Rattle.cases.proofs.fetch.Lts as lts
-use Rattle.cases.proofs.next_length.Reads as next-length-reads
-use Rattle.io.proofs.read_full.Reads as read-full-reads
 
--- src/main.rt:18:9
 next-length-requires : tie.Need-next-length-requires
 next-length-requires c κs = search needs
 
--- src/main.rt:20:9
 returns : tie.Need-returns
 returns c = search needs
 
--- src/main.rt:22:22
 slice-relend-prefix-read-full : tie.Need-slice-relend-prefix-read-full
 slice-relend-prefix-read-full c = search needs
 
--- src/main.rt:22:22
 slice-aggregate-read-full : tie.Need-slice-aggregate-read-full
 slice-aggregate-read-full c = search (needs, length-take-le)
 
--- src/main.rt:22:5
 read-full-requires : tie.Need-read-full-requires
 read-full-requires c κs = search needs
 
--- src/main.rt:17:1
 same-length : tie.Need-same-length
 same-length c = search needs
 
--- src/main.rt:17:1
 returns-2 : tie.Need-returns-2
 returns-2 c = search needs
 

@@ -5,15 +5,10 @@ use Prim.Native.Nat.{ℕ}
 use borrow.Author.Needs.{needs}
 use Rattle.desk.proofs.vb_look.Statement.{statement}
 use Rattle.desk.proofs.vb_look.Tie as tie
-use Rattle.desk.proofs.vb_look.Reads as reads
-use Rattle.desk.proofs.vb_look.Lts as lts
-use Rattle.reading.proofs.quantifiers.look_part.Reads as look-part-reads
 
--- src/lib.rt:84:9
 look-part-requires : tie.Need-look-part-requires
 look-part-requires c κs = search needs
 
--- src/lib.rt:80:1
 returns : tie.Need-returns
 returns c =
     let e = c .look-part .ensures in

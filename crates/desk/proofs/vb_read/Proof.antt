@@ -4,15 +4,10 @@ use Rattle.reading.specs.declared.Answer.{Answer}
 use borrow.Author.Needs.{needs}
 use Rattle.desk.proofs.vb_read.Statement.{statement}
 use Rattle.desk.proofs.vb_read.Tie as tie
-use Rattle.desk.proofs.vb_read.Reads as reads
-use Rattle.desk.proofs.vb_read.Lts as lts
-use Rattle.reading.proofs.read.Reads as read-reads
 
--- src/lib.rt:72:9
 read-requires : tie.Need-read-requires
 read-requires c κs = search needs
 
--- src/lib.rt:68:1
 returns : tie.Need-returns
 returns c =
     let e = c .read .ensures in

@@ -8,15 +8,10 @@ use Rattle.elimination.specs.declared.Tested.{Tested}
 use borrow.Author.Needs.{needs}
 use Rattle.desk.proofs.vb_test.Statement.{statement}
 use Rattle.desk.proofs.vb_test.Tie as tie
-use Rattle.desk.proofs.vb_test.Reads as reads
-use Rattle.desk.proofs.vb_test.Lts as lts
-use Rattle.elimination.proofs.test.Reads as test-reads
 
--- src/lib.rt:59:9
 test-requires : tie.Need-test-requires
 test-requires c κs = search needs
 
--- src/lib.rt:54:1
 returns : tie.Need-returns
 returns c =
     let a = c .before .before in

@@ -4,9 +4,6 @@ use borrow.Author.Needs.{needs}
 use lib.ListN.{length}
 use Rattle.eliminations.proofs.checksum.Statement.{statement}
 use Rattle.eliminations.proofs.checksum.Tie as tie
-use Rattle.eliminations.proofs.checksum.Reads as reads
-use Rattle.eliminations.proofs.checksum.Lts as lts
-use Rattle.eliminations.proofs.checked.Reads as checked-reads
 
 abbrev Inv-loop : tie.InvT-loop
 Inv-loop s h₀ i₀ h i = i ≤ length s
@@ -14,31 +11,24 @@ Inv-loop s h₀ i₀ h i = i ≤ length s
 abbrev μ-loop : tie.MeasureT-loop
 μ-loop s h₀ i₀ h i = length s - i
 
--- src/main.rt:15:5
 loop-holds : tie.Need-loop-holds Inv-loop μ-loop
 loop-holds c = search needs
 
--- src/main.rt:16:24
 shared-slice-read-checked : tie.Need-shared-slice-read-checked Inv-loop μ-loop
 shared-slice-read-checked c = search needs
 
--- src/main.rt:16:9
 checked-requires : tie.Need-checked-requires Inv-loop μ-loop
 checked-requires c κs = search needs
 
--- src/main.rt:17:9
 add-i : tie.Need-add-i Inv-loop μ-loop
 add-i c = search needs
 
--- src/main.rt:15:5
 loop-less : tie.Need-loop-less Inv-loop μ-loop
 loop-less c = search needs
 
--- src/main.rt:15:5
 loop-again : tie.Need-loop-again Inv-loop μ-loop
 loop-again c = search needs
 
--- src/main.rt:12:1
 returns : tie.Need-returns Inv-loop μ-loop
 returns c = search needs
 

@@ -2,9 +2,6 @@
 use Prim.Native.Nat.{_≤_, _-_}
 use lib.ListN.{length}
 use borrow.Author.Needs.{needs}
-use Rattle.numbers.proofs.show_row.Reads as reads
-use Rattle.numbers.proofs.show_row.Lts as lts
-use Rattle.numbers.proofs.show.Reads as show-reads
 use Rattle.exact.proofs.Rows.{in-at}
 use Rattle.numbers.proofs.show_row.Statement.{statement}
 use Rattle.numbers.proofs.show_row.Tie as tie

@@ -2,8 +2,6 @@
 use Prim.Native.Nat.{_≤_, _-_}
 use lib.ListN.{length}
 use borrow.Author.Needs.{needs}
-use Rattle.numbers.proofs.skip.Reads as reads
-use Rattle.numbers.proofs.skip.Lts as lts
 use Rattle.numbers.proofs.skip.Statement.{statement}
 use Rattle.numbers.proofs.skip.Tie as tie
 

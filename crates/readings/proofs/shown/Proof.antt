@@ -3,23 +3,16 @@ use lib.Seq.{length-take-le}
 use borrow.Author.Needs.{needs}
 use Rattle.readings.proofs.shown.Statement.{statement}
 use Rattle.readings.proofs.shown.Tie as tie
-use Rattle.readings.proofs.shown.Reads as reads
-use Rattle.readings.proofs.shown.Lts as lts
-use Rattle.readings.proofs.line.Reads as line-reads
 
--- src/main.rt:29:9
 returns : tie.Need-returns
 returns c = search needs
 
--- src/main.rt:31:10
 slice-aggregate-line : tie.Need-slice-aggregate-line
 slice-aggregate-line c = search (needs, length-take-le)
 
--- src/main.rt:31:5
 line-requires : tie.Need-line-requires
 line-requires c κs = search needs
 
--- src/main.rt:27:1
 returns-2 : tie.Need-returns-2
 returns-2 c = search needs
 

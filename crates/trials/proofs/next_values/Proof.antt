@@ -5,9 +5,6 @@ use borrow.Author.Needs.{needs}
 use lib.ListN.{length}
 use Rattle.trials.proofs.next_values.Statement.{statement}
 use Rattle.trials.proofs.next_values.Tie as tie
-use Rattle.trials.proofs.next_values.Reads as reads
-use Rattle.trials.proofs.next_values.Lts as lts
-use Rattle.trials.proofs.next_value.Reads as next-value-reads
 
 abbrev Inv-loop : tie.InvT-loop
 Inv-loop w₀ i₀ w i = (i ≤ 9) × (length w ≡ 9)
@@ -15,35 +12,27 @@ Inv-loop w₀ i₀ w i = (i ≤ 9) × (length w ≡ 9)
 abbrev μ-loop : tie.MeasureT-loop
 μ-loop w₀ i₀ w i = 9 - i
 
--- src/main.rt:25:5
 loop-holds : tie.Need-loop-holds Inv-loop μ-loop
 loop-holds c = search needs
 
--- src/main.rt:26:16
 next-value-requires : tie.Need-next-value-requires Inv-loop μ-loop
 next-value-requires c κs = search needs
 
--- src/main.rt:26:9
 mul-w : tie.Need-mul-w Inv-loop μ-loop
 mul-w c = search needs
 
--- src/main.rt:26:9
 array-set-from-w : tie.Need-array-set-from-w Inv-loop μ-loop
 array-set-from-w c = search needs
 
--- src/main.rt:27:9
 add-i : tie.Need-add-i Inv-loop μ-loop
 add-i c = search needs
 
--- src/main.rt:25:5
 loop-less : tie.Need-loop-less Inv-loop μ-loop
 loop-less c = search needs
 
--- src/main.rt:25:5
 loop-again : tie.Need-loop-again Inv-loop μ-loop
 loop-again c = search needs
 
--- src/main.rt:22:1
 returns : tie.Need-returns Inv-loop μ-loop
 returns c = search needs
 

@@ -3,53 +3,37 @@ use lib.Seq.{length-take-le}
 use borrow.Author.Needs.{needs}
 use Rattle.trials.proofs.shown.Statement.{statement}
 use Rattle.trials.proofs.shown.Tie as tie
-use Rattle.trials.proofs.shown.Reads as reads
-use Rattle.trials.proofs.shown.Lts as lts
-use Rattle.cases.proofs.show.Reads as show-reads
-use Rattle.elimination.proofs.test.Reads as test-reads
-use Rattle.trials.proofs.next_values.Reads as next-values-reads
 
--- src/main.rt:35:9
 returns : tie.Need-returns
 returns c = search needs
 
--- src/main.rt:37:31
 slice-aggregate-test : tie.Need-slice-aggregate-test
 slice-aggregate-test c = search (needs, length-take-le)
 
--- src/main.rt:37:45
 next-values-requires : tie.Need-next-values-requires
 next-values-requires c κs = search needs
 
--- src/main.rt:37:9
 test-requires : tie.Need-test-requires
 test-requires c κs = search needs
 
--- src/main.rt:38:27
 slice-aggregate-show : tie.Need-slice-aggregate-show
 slice-aggregate-show c = search needs
 
--- src/main.rt:38:5
 show-requires : tie.Need-show-requires
 show-requires c κs = search needs
 
--- src/main.rt:39:28
 slice-aggregate-show-2 : tie.Need-slice-aggregate-show-2
 slice-aggregate-show-2 c = search needs
 
--- src/main.rt:39:5
 show-requires-2 : tie.Need-show-requires-2
 show-requires-2 c κs = search needs
 
--- src/main.rt:40:26
 slice-aggregate-show-3 : tie.Need-slice-aggregate-show-3
 slice-aggregate-show-3 c = search needs
 
--- src/main.rt:40:5
 show-requires-3 : tie.Need-show-requires-3
 show-requires-3 c κs = search needs
 
--- src/main.rt:33:1
 returns-2 : tie.Need-returns-2
 returns-2 c = search needs
 

@@ -11,10 +11,6 @@ use Rattle.elimination.proofs.TermLaws.{add-known, add-full, add-new}
 use borrow.Author.Needs.{needs}
 use Rattle.elimination.proofs.terms.add.Statement.{statement}
 use Rattle.elimination.proofs.terms.add.Tie as tie
-use Rattle.elimination.proofs.terms.add.Reads as reads
-use Rattle.elimination.proofs.terms.add.Lts as lts
-use Rattle.elimination.proofs.terms.known.Reads as known-reads
-use Rattle.elimination.proofs.terms.put.Reads as put-reads
 
 known-requires : tie.Need-known-requires
 known-requires c κs = search needs

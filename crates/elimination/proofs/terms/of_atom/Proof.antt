@@ -20,11 +20,6 @@ use Rattle.elimination.proofs.TermLaws.{rows-long, collected-fine}
 use borrow.Author.Needs.{needs}
 use Rattle.elimination.proofs.terms.of_atom.Statement.{statement}
 use Rattle.elimination.proofs.terms.of_atom.Tie as tie
-use Rattle.elimination.proofs.terms.of_atom.Reads as reads
-use Rattle.elimination.proofs.terms.of_atom.Lts as lts
-use Rattle.elimination.proofs.terms.add.Reads as add-reads
-use Rattle.exact.proofs.term.term_of.Reads as term-of-reads
-use Rattle.reading.proofs.numbers.nine.Reads as nine-reads
 
 nine-requires : tie.Need-nine-requires
 nine-requires c κs = search needs

@@ -16,11 +16,6 @@ use Rattle.elimination.proofs.TermLaws.{gather-atom, gather-window}
 use borrow.Author.Needs.{needs}
 use Rattle.elimination.proofs.terms.of_leaf.Statement.{statement}
 use Rattle.elimination.proofs.terms.of_leaf.Tie as tie
-use Rattle.elimination.proofs.terms.of_leaf.Reads as reads
-use Rattle.elimination.proofs.terms.of_leaf.Lts as lts
-use Rattle.elimination.proofs.terms.of_atom.Reads as of-atom-reads
-use Rattle.elimination.proofs.terms.of_window.Reads as of-window-reads
-use Rattle.reading.proofs.numbers.u16_at.Reads as u16-at-reads
 
 u16-at-requires : tie.Need-u16-at-requires
 u16-at-requires c κs =

@@ -25,14 +25,6 @@ use Rattle.elimination.proofs.TermLaws.{rows-long, collected-fine, coll
 use borrow.Author.Needs.{needs}
 use Rattle.elimination.proofs.terms.of_window.Statement.{statement}
 use Rattle.elimination.proofs.terms.of_window.Tie as tie
-use Rattle.elimination.proofs.terms.of_window.Reads as reads
-use Rattle.elimination.proofs.terms.of_window.Lts as lts
-use Rattle.elimination.proofs.terms.add.Reads as add-reads
-use Rattle.elimination.proofs.terms.count_of.Reads as count-of-reads
-use Rattle.elimination.proofs.terms.is_full.Reads as is-full-reads
-use Rattle.exact.proofs.term.bound_of.Reads as bound-of-reads
-use Rattle.reading.proofs.numbers.int_at.Reads as int-at-reads
-use Rattle.reading.proofs.numbers.u16_at.Reads as u16-at-reads
 
 u16-at-requires : tie.Need-u16-at-requires
 u16-at-requires c κs = search needs

@@ -4,8 +4,6 @@ use lib.IntN.{_+ℤ_, _*ℤ_}
 use Rattle.exact.proofs.Sizes.{rd, fits-as, fits, in-*, in-+}
 use Rattle.elimination.proofs.testing.added.Statement.{statement}
 use Rattle.elimination.proofs.testing.added.Tie as tie
-use Rattle.elimination.proofs.testing.added.Reads as reads
-use Rattle.elimination.proofs.testing.added.Lts as lts
 
 mul-result : tie.Need-mul-result
 mul-result c = fits-as (ap₂ _*ℤ_ (rd (c .fits .a)) (rd (c .fits .v))) (fits (in-* (c .pre .1 .0) (c .pre .1 .1)) tt)

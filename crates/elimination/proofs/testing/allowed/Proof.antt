@@ -14,9 +14,6 @@ use Rattle.exact.proofs.Rows.{all-is, small}
 use Rattle.exact.proofs.Sizes.{rd, ok}
 use Rattle.elimination.proofs.testing.allowed.Statement.{statement}
 use Rattle.elimination.proofs.testing.allowed.Tie as tie
-use Rattle.elimination.proofs.testing.allowed.Reads as reads
-use Rattle.elimination.proofs.testing.allowed.Lts as lts
-use Rattle.elimination.proofs.testing.in_range.Reads as in-range-reads
 
 abbrev Inv-loop : tie.InvT-loop
 Inv-loop w i₀ i = (i ≤ 9) × (allB (small mostValue) (drop i w) ≡ allIn mostValue w)

@@ -6,8 +6,6 @@ use Rattle.elimination.specs.Pushing.{flip}
 use borrow.Author.Needs.{needs}
 use Rattle.elimination.proofs.testing.denied.Statement.{statement}
 use Rattle.elimination.proofs.testing.denied.Tie as tie
-use Rattle.elimination.proofs.testing.denied.Reads as reads
-use Rattle.elimination.proofs.testing.denied.Lts as lts
 
 add-t3 : tie.Need-add-t3
 add-t3 c = search needs

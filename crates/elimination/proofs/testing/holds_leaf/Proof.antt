@@ -17,13 +17,6 @@ use Rattle.elimination.proofs.TestLaws.{holds-atom, holds-window}
 use borrow.Author.Needs.{needs}
 use Rattle.elimination.proofs.testing.holds_leaf.Statement.{statement}
 use Rattle.elimination.proofs.testing.holds_leaf.Tie as tie
-use Rattle.elimination.proofs.testing.holds_leaf.Reads as reads
-use Rattle.elimination.proofs.testing.holds_leaf.Lts as lts
-use Rattle.elimination.proofs.testing.in_window.Reads as in-window-reads
-use Rattle.elimination.proofs.testing.sum.Reads as sum-reads
-use Rattle.exact.proofs.atom.holds.Reads as holds-reads
-use Rattle.reading.proofs.numbers.nine.Reads as nine-reads
-use Rattle.reading.proofs.numbers.u16_at.Reads as u16-at-reads
 
 u16-at-requires : tie.Need-u16-at-requires
 u16-at-requires c κs =

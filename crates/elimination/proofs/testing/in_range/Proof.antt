@@ -8,8 +8,6 @@ use Rattle.elimination.proofs.TestLaws.{range-below, range-rest}
 use borrow.Author.Needs.{needs}
 use Rattle.elimination.proofs.testing.in_range.Statement.{statement}
 use Rattle.elimination.proofs.testing.in_range.Tie as tie
-use Rattle.elimination.proofs.testing.in_range.Reads as reads
-use Rattle.elimination.proofs.testing.in_range.Lts as lts
 
 sub-if1 : tie.Need-sub-if1
 sub-if1 c = search needs

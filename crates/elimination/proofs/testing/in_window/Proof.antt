@@ -14,11 +14,6 @@ use Rattle.exact.proofs.Rows.{rd-at, in-at}
 use borrow.Author.Needs.{needs}
 use Rattle.elimination.proofs.testing.in_window.Statement.{statement}
 use Rattle.elimination.proofs.testing.in_window.Tie as tie
-use Rattle.elimination.proofs.testing.in_window.Reads as reads
-use Rattle.elimination.proofs.testing.in_window.Lts as lts
-use Rattle.elimination.proofs.testing.added.Reads as added-reads
-use Rattle.reading.proofs.numbers.int_at.Reads as int-at-reads
-use Rattle.reading.proofs.numbers.u16_at.Reads as u16-at-reads
 
 u16-at-requires : tie.Need-u16-at-requires
 u16-at-requires c κs = search needs

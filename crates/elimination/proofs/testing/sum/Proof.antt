@@ -11,9 +11,6 @@ use Rattle.exact.proofs.Rows.{rd-at, in-at}
 use Rattle.elimination.proofs.TestLaws.{Summed, summed-none, summed-more, summed-done}
 use Rattle.elimination.proofs.testing.sum.Statement.{statement}
 use Rattle.elimination.proofs.testing.sum.Tie as tie
-use Rattle.elimination.proofs.testing.sum.Reads as reads
-use Rattle.elimination.proofs.testing.sum.Lts as lts
-use Rattle.elimination.proofs.testing.added.Reads as added-reads
 
 abbrev Inv-loop : tie.InvT-loop
 Inv-loop ns w t₀ i₀ t i = (i ≤ 9) × Summed ns w i (toZ w64 t)

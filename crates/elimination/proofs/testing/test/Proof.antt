@@ -17,13 +17,6 @@ use Rattle.elimination.proofs.TestLaws.{allowed-each, none-free, tested
 use borrow.Author.Needs.{needs}
 use Rattle.elimination.proofs.testing.test.Statement.{statement}
 use Rattle.elimination.proofs.testing.test.Tie as tie
-use Rattle.elimination.proofs.testing.test.Reads as reads
-use Rattle.elimination.proofs.testing.test.Lts as lts
-use Rattle.elimination.proofs.testing.allowed.Reads as allowed-reads
-use Rattle.elimination.proofs.testing.holds_at.Reads as holds-at-reads
-use Rattle.elimination.proofs.testing.verdict_of.Reads as verdict-of-reads
-use Rattle.reading.proofs.formulas.read_whole.Reads as read-whole-reads
-use Rattle.reading.proofs.quantifiers.first_quantifier.Reads as first-quantifier-reads
 
 read-whole-requires : tie.Need-read-whole-requires
 read-whole-requires c κs = search needs
