@@ -1,9 +1,22 @@
 // What the gate's programs share: the next case of standard input, and numbers on a line.
 
+ghost use Prim.Native.Nat.{_+_, _≤_, _<_};
+ghost use lib.ListN.{length};
+
 // A number, and what follows it.
 pub fn show(n: usize, after: &[u8]) {
     io::print_decimal(1, n as u64);
     io::write_all(1, after);
+}
+
+// The number in the four bytes of s from i on.
+pub fn number_at(s: &[u8], i: usize) -> u64
+    requires { ⌜ i + 4 ≤ length (now s) ⌝ }
+    ensures { λ r. ⌜ r < 4294967296 ⌝ }
+{
+    let low = reading::u16_at(s, i) as u64;
+    let high = reading::u16_at(s, i + 2) as u64;
+    low + 65536 * high
 }
 
 // The length of the next case, which stands before it in four bytes; past every buffer where the input has ended.
@@ -13,7 +26,7 @@ fn next_length() -> usize {
     if got < 4 {
         return 4294967295;
     }
-    reading::numbers::u32_at(&head, 0) as usize
+    number_at(&head, 0) as usize
 }
 
 // The next case's bytes, at the start of the buffer; their number, or one past the buffer where there is none.

@@ -80,7 +80,7 @@ pub extern "C" fn vb_test(
 pub extern "C" fn vb_read(sheet: &[u8]) -> Place
     ensures { λ r. ⌜ (r .number ≡ answerOf (reading resultBytes resultLevels (now (sheet .entry))) .number) × (r .place ≡ answerOf (reading resultBytes resultLevels (now (sheet .entry))) .place) ⌝ }
 {
-    let r = reading::read(sheet, reading::RESULT_BYTES, reading::RESULT_LEVELS);
+    let r = reading::read(sheet, reading::Limit::Result);
     Place {
         number: r.number as u64,
         place: r.place as u64,
@@ -92,7 +92,7 @@ pub extern "C" fn vb_read(sheet: &[u8]) -> Place
 pub extern "C" fn vb_look(sheet: &[u8]) -> Part
     ensures { λ r. ⌜ (r .at ≡ lookPart (now (sheet .entry)) .at) × (r .length ≡ lookPart (now (sheet .entry)) .length) ⌝ }
 {
-    let r = reading::quantifiers::look_part(sheet);
+    let r = reading::look_part(sheet);
     Part {
         at: r.at as u64,
         length: r.length as u64,

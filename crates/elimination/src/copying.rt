@@ -5,9 +5,12 @@ use crate::lists;
 use crate::writing;
 use exact::Outcome;
 use exact::Point;
-use exact::number;
-use exact::row;
-use reading::numbers;
+use exact::atom_at;
+use exact::negated;
+use exact::single;
+use reading::int_at;
+use reading::nine;
+use reading::u16_at;
 ghost use mathlib.Core.Path.{_≡_};
 ghost use Prim.Native.Nat.{_+_, _≤_, _<_};
 ghost use lib.ListN.{length};
@@ -27,7 +30,7 @@ fn atom(kind: u8, ns: [i64; 9], q: Point, out: &mut [u8], to: usize, used: usize
     requires { ⌜ to + 40 ≤ length (now out) ⌝ }
     ensures { λ r. ⌜ Wrote (settle (spotOf q) (comparisonOf kind) ns) used to (now (out .entry)) (now (out .exit)) r ⌝ }
 {
-    let r = exact::atom::atom_at(kind, ns, q);
+    let r = atom_at(kind, ns, q);
     let o = r.outcome;
     match o {
         Outcome::True => Copied::Decided(used, true),
@@ -85,15 +88,15 @@ fn window(s: &[u8], neg: bool, q: Point, out: &mut [u8], to: usize) -> Copied
     requires { ⌜ Ready q ⌝ }
     ensures { λ r. ⌜ Wrote (windowAt neg (spotOf q) (le2 (now (s .entry)) 4) (int4 (now (s .entry)) 6) (int4 (now (s .entry)) 10)) 14 to (now (out .entry)) (now (out .exit)) r ⌝ }
 {
-    let v = numbers::u16_at(s, 4) as usize;
-    let lo = numbers::int_at(s, 6);
-    let hi = numbers::int_at(s, 10);
+    let v = u16_at(s, 4) as usize;
+    let lo = int_at(s, 6);
+    let hi = int_at(s, 10);
     if neg {
         pair(
             false,
             1,
-            row::single(v, 1, number::neg(lo)),
-            row::single(v, -1, hi),
+            single(v, 1, exact::neg(lo)),
+            single(v, -1, hi),
             q,
             out,
             to,
@@ -103,8 +106,8 @@ fn window(s: &[u8], neg: bool, q: Point, out: &mut [u8], to: usize) -> Copied
         pair(
             true,
             2,
-            row::single(v, -1, lo),
-            row::single(v, 1, number::neg(hi)),
+            single(v, -1, lo),
+            single(v, 1, exact::neg(hi)),
             q,
             out,
             to,
@@ -122,12 +125,12 @@ fn denied(kind: u8, ns: [i64; 9], q: Point, out: &mut [u8], to: usize) -> Copied
     ensures { λ r. ⌜ Wrote (denied (spotOf q) (comparisonOf kind) ns) 40 to (now (out .entry)) (now (out .exit)) r ⌝ }
 {
     if kind == 1 {
-        return atom(2, row::negated(ns), q, out, to, 40);
+        return atom(2, negated(ns), q, out, to, 40);
     }
     if kind == 2 {
-        return atom(1, row::negated(ns), q, out, to, 40);
+        return atom(1, negated(ns), q, out, to, 40);
     }
-    pair(false, 1, ns, row::negated(ns), q, out, to, 40)
+    pair(false, 1, ns, negated(ns), q, out, to, 40)
 }
 
 // An atom or a window, under NOT or not.
@@ -136,14 +139,14 @@ fn leaf(s: &[u8], neg: bool, q: Point, out: &mut [u8], to: usize) -> Copied
     requires { ⌜ IsLeaf (treeOf (now s)) ⌝ }
     ensures { λ r. ⌜ Wrote (copied neg (spotOf q) (treeOf (now (s .entry)))) (length (encode (treeOf (now (s .entry))))) to (now (out .entry)) (now (out .exit)) r ⌝ }
 {
-    let kind = numbers::u16_at(s, 2);
+    let kind = u16_at(s, 2);
     if kind == 9 {
         return window(s, neg, q, out, to);
     }
     if neg {
-        return denied(kind as u8, numbers::nine(s), q, out, to);
+        return denied(kind as u8, nine(s), q, out, to);
     }
-    atom(kind as u8, numbers::nine(s), q, out, to, 40)
+    atom(kind as u8, nine(s), q, out, to, 40)
 }
 
 // Whether a list of the kind, under NOT or not, is ALLOF once NOT is pushed.
@@ -161,7 +164,7 @@ pub fn copied(s: &[u8], neg: bool, q: Point, out: &mut [u8], to: usize) -> Copie
     requires { ⌜ Asks (now s) q to (length (now out)) ⌝ }
     ensures { λ r. ⌜ Wrote (copied neg (spotOf q) (treeOf (now (s .entry)))) (length (encode (treeOf (now (s .entry))))) to (now (out .entry)) (now (out .exit)) r ⌝ }
 {
-    let kind = numbers::u16_at(s, 2);
+    let kind = u16_at(s, 2);
     match kind {
         4 => lists::after(4, copied(&s[4..], lists::flip(neg), q, out, to)),
         5 | 6 => copied_list(s, neg, q, out, to),
@@ -175,9 +178,9 @@ fn copied_list(s: &[u8], neg: bool, q: Point, out: &mut [u8], to: usize) -> Copi
     requires { ⌜ IsList (treeOf (now s)) ⌝ }
     ensures { λ r. ⌜ Wrote (copied neg (spotOf q) (treeOf (now (s .entry)))) (length (encode (treeOf (now (s .entry))))) to (now (out .entry)) (now (out .exit)) r ⌝ }
 {
-    let mut l = lists::opened(is_all(numbers::u16_at(s, 2), neg), to);
+    let mut l = lists::opened(is_all(u16_at(s, 2), neg), to);
     let mut at: usize = 6;
-    let mut left = numbers::u16_at(s, 4) as usize;
+    let mut left = u16_at(s, 4) as usize;
     while left > 0 {
         let end = l.end;
         let r = copied(&s[at..], neg, q, out, end);

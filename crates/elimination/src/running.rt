@@ -9,11 +9,10 @@ use crate::writing;
 use exact::Point;
 use exact::PointKind;
 use reading::Found;
+use reading::Limit;
 use reading::RESULT_BYTES;
-use reading::SHEET_BYTES;
-use reading::SHEET_LEVELS;
-use reading::formulas;
-use reading::quantifiers;
+use reading::last_quantifier;
+use reading::read_whole;
 ghost use mathlib.Core.Path.{_≡_};
 ghost use Prim.Native.Nat.{_*_, _≤_};
 ghost use lib.ListN.{length, take};
@@ -80,7 +79,7 @@ fn steps(cur: &mut [u8], work: &mut [u8], len: usize) -> Ran
     ensures { λ r. ⌜ Runs (eliminated (held len (now (cur .entry)))) (now (cur .entry)) (now (cur .exit)) (now (work .entry)) (now (work .exit)) r ⌝ }
 {
     let mut n = len;
-    let mut found = quantifiers::last_quantifier(&cur[..n]);
+    let mut found = last_quantifier(&cur[..n]);
     let mut left = is_at(found);
     while left {
         let o = offset_of(found);
@@ -90,7 +89,7 @@ fn steps(cur: &mut [u8], work: &mut [u8], len: usize) -> Ran
             return Ran::Refused(e, o);
         }
         n = length_of(r);
-        found = quantifiers::last_quantifier(&cur[..n]);
+        found = last_quantifier(&cur[..n]);
         left = is_at(found);
     }
     Ran::Fine(n)
@@ -248,7 +247,7 @@ pub fn eliminate(sheet: &[u8], result: &mut [u8], work: &mut [u8]) -> Reply
     if work.len() < RESULT_BYTES {
         return refused(1, 0);
     }
-    match formulas::read_whole(sheet, SHEET_BYTES, SHEET_LEVELS) {
+    match read_whole(sheet, Limit::Sheet) {
         reading::Reply::Refused(number, place) => refused(number, place),
         reading::Reply::Done(_) => accepted(sheet, result, work),
     }

@@ -10,7 +10,7 @@ use crate::trying;
 use crate::writing;
 use reading::RESULT_BYTES;
 use reading::SHEET_BYTES;
-use reading::numbers;
+use reading::u16_at;
 ghost use mathlib.Core.Path.{_≡_};
 ghost use Prim.Native.Nat.{_+_, _-_, _*_, _≤_, _<_};
 ghost use lib.ListN.{length};
@@ -115,8 +115,8 @@ fn step_with(cur: &mut [u8], work: &mut [u8], out: &mut [u8], len: usize, o: usi
     requires { ⌜ resultBytes + 6 + 7 * (len - 6) ≤ length (now out) ⌝ }
     ensures { λ r. ⌜ Steps (held len (now (cur .entry))) (now (cur .entry)) (now (cur .exit)) (now (work .entry)) (now (work .exit)) r ⌝ }
 {
-    let all = numbers::u16_at(cur, o + 2) == EVERY;
-    let x = numbers::u16_at(cur, o + 4) as usize;
+    let all = u16_at(cur, o + 2) == EVERY;
+    let x = u16_at(cur, o + 4) as usize;
     let from = o + 6;
     let m = made(&cur[from..len], x, all, out);
     match m {

@@ -1,11 +1,11 @@
 // The boundary terms of a body: ten numbers each, in a table of 640. A term stands where it first appears and is not taken again.
 use crate::Gathered;
-use exact::row::same_row;
-use exact::term::bound_of;
-use exact::term::term_of;
-use reading::numbers::int_at;
-use reading::numbers::nine;
-use reading::numbers::u16_at;
+use exact::bound_of;
+use exact::same_row;
+use exact::term_of;
+use reading::int_at;
+use reading::nine;
+use reading::u16_at;
 ghost use mathlib.Core.Path.{_≡_};
 ghost use Prim.Native.Nat.{_+_, _*_, _≤_, _<_};
 ghost use lib.ListN.{length};

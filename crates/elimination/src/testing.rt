@@ -2,14 +2,13 @@
 use crate::Holds;
 use crate::Tested;
 use reading::Found;
-use reading::RESULT_BYTES;
-use reading::RESULT_LEVELS;
+use reading::Limit;
 use reading::Reply;
-use reading::formulas::read_whole;
-use reading::numbers::int_at;
-use reading::numbers::nine;
-use reading::numbers::u16_at;
-use reading::quantifiers::first_quantifier;
+use reading::first_quantifier;
+use reading::int_at;
+use reading::nine;
+use reading::read_whole;
+use reading::u16_at;
 ghost use mathlib.Core.Path.{_≡_};
 ghost use mathlib.Core.Bool.{_&&_};
 ghost use Prim.Native.Nat.{_+_, _≤_, _<_};
@@ -85,7 +84,7 @@ fn holds_leaf(s: &[u8], w: [i64; 9]) -> Holds
         let b = in_window(s, w);
         return Holds { used: 14, holds: b };
     }
-    let b = exact::atom::holds(kind as u8, sum(nine(s), w));
+    let b = exact::holds(kind as u8, sum(nine(s), w));
     Holds { used: 40, holds: b }
 }
 
@@ -193,7 +192,7 @@ fn verdict_of(holds: bool) -> usize
 pub fn test(sheet: &[u8], w: [i64; 9]) -> Tested
     ensures { λ r. ⌜ r ≡ tested (now (sheet .entry)) w ⌝ }
 {
-    match read_whole(sheet, RESULT_BYTES, RESULT_LEVELS) {
+    match read_whole(sheet, Limit::Result) {
         Reply::Refused(number, place) => Tested {
             number: number,
             verdict: 3,

@@ -5,8 +5,8 @@ use crate::listing;
 use crate::lists;
 use exact::Point;
 use exact::PointKind;
-use exact::row;
-use exact::term;
+use exact::midpoint;
+use exact::within_all;
 ghost use Prim.Native.Nat.{_+_, _*_, _≤_, _<_};
 ghost use mathlib.Core.Bool.{false};
 ghost use mathlib.Core.List.{[], _∷_};
@@ -59,8 +59,8 @@ fn at_midpoint(
     let q = 10 * j;
     let pe = p + 10;
     let qe = q + 10;
-    let m = term::midpoint(&ts[p..pe], &ts[q..qe]);
-    if row::within_all(&m) {
+    let m = midpoint(&ts[p..pe], &ts[q..qe]);
+    if within_all(&m) {
         let at = Point {
             kind: PointKind::Here,
             x: x,

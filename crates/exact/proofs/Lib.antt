@@ -6,7 +6,7 @@ pub mod Order
 pub mod Sizes
 pub mod Sign
 pub mod Loops
-pub mod Gcd
+pub mod Divisors
 pub mod Rows
 pub mod Reduced
 pub mod Terms

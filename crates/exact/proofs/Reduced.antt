@@ -12,7 +12,7 @@ use Rattle.exact.specs.Numbers.{at}
 use Rattle.exact.specs.Divisor.{gcdOf, gcdFrom, gcds, quots, reduced, over}
 use Rattle.exact.specs.Atoms.{zeros}
 use Rattle.exact.proofs.Sizes.{abs-*}
-use Rattle.exact.proofs.Gcd.{gcd-mul}
+use Rattle.exact.proofs.Divisors.{gcd-mul}
 use Rattle.exact.proofs.Rows.{times, EachBy, at-quots, by-at, gcds-divides, reduced-times, reduced-zero}
 use Rattle.exact.proofs.ZLaws.{*ℤ-one-l}
 use Rattle.exact.proofs.Sign.{Above}

@@ -19,7 +19,7 @@ use Rattle.exact.specs.Divisor.{gcdOf, gcdFrom, gcds, quots, reduced, ov
 use Rattle.exact.specs.Atoms.{zeros}
 use Rattle.exact.proofs.Sizes.{quot-exact, rd, fits, in-quot, in-more, in-rd, in-neg}
 use Rattle.exact.proofs.Loops.{allB, getD-tab}
-use Rattle.exact.proofs.Gcd.{gcd-is, gcd-le}
+use Rattle.exact.proofs.Divisors.{gcd-is, gcd-le}
 
 -- one more number
 pub gcd-turn : (s : List ℤ) (i g : ℕ) → i < length s → gcdFrom (gcdOf g (natAbs (getD s i (pos 0)))) (drop (i + 1) s) ≡ gcdFrom g (drop i s)

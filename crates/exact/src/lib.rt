@@ -1,8 +1,23 @@
-// Exact arithmetic: greatest common divisors, reduced rows, boundary terms, midpoints, and an atom at a point.
-pub mod atom;
-pub mod number;
-pub mod row;
-pub mod term;
+// Exact arithmetic: greatest common divisors, reduced rows, boundary terms, midpoints, and an atom at a point. No public call of the product stands
+// here: what is shown is for the crate above and for the program that runs stored cases, and asks for sizes that these meet.
+mod atom;
+mod number;
+mod row;
+mod term;
+
+pub use atom::atom_at;
+pub use atom::holds;
+pub use number::abs;
+pub use number::gcd;
+pub use number::neg;
+pub use row::negated;
+pub use row::reduce;
+pub use row::same_row;
+pub use row::single;
+pub use row::within_all;
+pub use term::bound_of;
+pub use term::midpoint;
+pub use term::term_of;
 
 // M: coefficients, constants, lo and hi lie in -M..M.
 pub const MOST: u64 = reading::MOST as u64;

@@ -7,10 +7,8 @@ use exact::Outcome;
 use exact::Point;
 use exact::PointKind;
 use exact::Put;
-use exact::atom;
-use exact::number;
-use exact::row;
-use exact::term;
+use exact::abs;
+use exact::within_all;
 ghost use Prim.Native.Nat.{_<_, _≤_};
 ghost use lib.ListN.{length};
 ghost use Rattle.reading.specs.Limits.{M};
@@ -90,7 +88,7 @@ fn integer(s: &[u8], from: usize) -> Read
             let w = natural(s, p + 1);
             let v = signed(w.value);
             return Read {
-                value: number::neg(v),
+                value: exact::neg(v),
                 at: w.at,
             };
         }
@@ -126,10 +124,10 @@ fn show(z: i64)
 {
     if z < 0 {
         io::write_all(1, b" -");
-        io::print_decimal(1, number::abs(z));
+        io::print_decimal(1, abs(z));
     } else {
         io::write_all(1, b" ");
-        io::print_decimal(1, number::abs(z));
+        io::print_decimal(1, abs(z));
     }
 }
 
@@ -161,7 +159,7 @@ fn case_gcd(s: &[u8], from: usize) -> usize
     let x = a.value;
     let y = b.value;
     io::write_all(1, b" ");
-    io::print_decimal(1, number::gcd(number::abs(x), number::abs(y)));
+    io::print_decimal(1, exact::gcd(abs(x), abs(y)));
     b.at
 }
 
@@ -171,8 +169,8 @@ fn case_row(s: &[u8], from: usize) -> usize
 {
     let mut w = [0i64; 9];
     let at = fill(s, from, &mut w);
-    show_truth(row::within_all(&w));
-    row::reduce(&mut w);
+    show_truth(within_all(&w));
+    exact::reduce(&mut w);
     show_row(&w);
     at
 }
@@ -185,7 +183,7 @@ fn case_same(s: &[u8], from: usize) -> usize
     let mut b = [0i64; 9];
     let p = fill(s, from, &mut a);
     let at = fill(s, p, &mut b);
-    show_truth(row::same_row(&a, &b));
+    show_truth(exact::same_row(&a, &b));
     at
 }
 
@@ -198,12 +196,12 @@ fn case_term(s: &[u8], from: usize) -> usize
     let p = k.at;
     let at = fill(s, p, &mut ns);
     let v = k.value;
-    let x = number::abs(v) as usize;
-    if row::within_all(&ns) {
+    let x = abs(v) as usize;
+    if within_all(&ns) {
         if x < 8 {
             let a = ns[x];
             if a != 0 {
-                let t = term::term_of(ns, x);
+                let t = exact::term_of(ns, x);
                 show_row(&t);
                 return at;
             }
@@ -221,11 +219,11 @@ fn case_mid(s: &[u8], from: usize) -> usize
     let mut u = [0i64; 10];
     let p = fill(s, from, &mut t);
     let at = fill(s, p, &mut u);
-    if row::within_all(&t) {
-        if row::within_all(&u) {
-            let m = term::midpoint(&t, &u);
+    if within_all(&t) {
+        if within_all(&u) {
+            let m = exact::midpoint(&t, &u);
             show_row(&m);
-            show_truth(row::within_all(&m));
+            show_truth(within_all(&m));
             return at;
         }
     }
@@ -265,7 +263,7 @@ fn show_atom(kind: u8, ns: [i64; 9], q: Point)
     requires { ⌜ Each M ns ⌝ }
     requires { ⌜ Ready q ⌝ }
 {
-    let r = atom::atom_at(kind, ns, q);
+    let r = exact::atom_at(kind, ns, q);
     if r.fits {
         show_put(r);
     } else {
@@ -277,8 +275,8 @@ fn atom_case(kind: u64, place: u64, x: u64, ns: [i64; 9], n: [i64; 10])
     requires { ⌜ Each 9223372036854775807 ns ⌝ }
     requires { ⌜ Each 9223372036854775807 n ⌝ }
 {
-    if row::within_all(&ns) {
-        if row::within_all(&n) {
+    if within_all(&ns) {
+        if within_all(&n) {
             if x < 8 {
                 if kind < 4 {
                     show_atom(
@@ -312,7 +310,7 @@ fn case_atom(s: &[u8], from: usize) -> usize
     let x = a.value;
     let y = b.value;
     let z = c.value;
-    atom_case(number::abs(x), number::abs(y), number::abs(z), ns, n);
+    atom_case(abs(x), abs(y), abs(z), ns, n);
     at
 }
 

@@ -1,8 +1,8 @@
--- The laws of reading, each group resting on those above it: numbers and records (Signed, Nine, Heads, Cases), a formula and a whole sheet as
+-- The laws of reading, each group resting on those above it: numbers and records (Signed, Ints, Heads, Cases), a formula and a whole sheet as
 -- the code reads them (Reading, Whole), what is written is read and what is read was written (Laws, Sound, Accepts, Trees), the first and
 -- the last quantifier and the look (Places, Scan, Looking), and that each promise allows one reply (Unique). Examples are worked sheets.
 pub mod Signed
-pub mod Nine
+pub mod Ints
 pub mod Heads
 pub mod Cases
 pub mod Reading

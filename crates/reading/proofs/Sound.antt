@@ -19,7 +19,7 @@ use Rattle.reading.specs.Bytes.{le2, le4, int4, ints, bytes2, bytes4, in
 use Rattle.reading.specs.Formula.{Formula, Formulas, count, Label, size, follow, fieldBytes, recordBytes, encode, encodes, AllM, InRange, Fits, AllFit, none, more, atomL, notL, listL, quantL, windowL}
 use Rattle.reading.specs.Records.{Record, pick, inM, allM, head, bad, opened}
 use Rattle.reading.specs.Reading.{Read, build, joined, then, formulasIn, under, tooDeep, body, formulaIn, good, fault}
-use Rattle.reading.proofs.Nine.{ints-count}
+use Rattle.reading.proofs.Ints.{ints-count}
 use Rattle.reading.proofs.Cases.{head-in}
 
 -- ---- numbers

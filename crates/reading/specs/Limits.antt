@@ -1,5 +1,7 @@
 -- 01, 'Numbers that bound the work': each limit has its one home here. Every other file names it.
 use Prim.Native.Nat.{ℕ}
+use Rattle.reading.specs.declared.Limit.{Limit}
+use Rattle.reading.specs.declared.Limit.the-variants.{Sheet, Result}
 
 -- M: coefficients, constants, lo and hi lie in −M..M
 abbrev pub M : ℕ
@@ -18,6 +20,15 @@ resultBytes = 65536
 
 abbrev pub resultLevels : ℕ
 resultLevels = 17
+
+-- what each case of the code's limits stands for
+abbrev pub bytesOf : Limit → ℕ
+bytesOf Sheet = sheetBytes
+bytesOf Result = resultBytes
+
+abbrev pub levelsOf : Limit → ℕ
+levelsOf Sheet = sheetLevels
+levelsOf Result = resultLevels
 
 -- the greatest variable's number, and how many variables there are
 abbrev pub lastVariable : ℕ

@@ -1,9 +1,15 @@
 // A formula: its record, and then the formulas that follow it, read by the same rule one level further in. Then a whole sheet.
 ghost use mathlib.Core.Path.{_≡_};
+ghost use Rattle.reading.specs.Limits.{bytesOf, levelsOf};
 ghost use Rattle.reading.specs.Reading.{formulaIn};
 ghost use Rattle.reading.specs.Answers.{replyOf, reading};
 use crate::Head;
+use crate::Limit;
+use crate::RESULT_BYTES;
+use crate::RESULT_LEVELS;
 use crate::Reply;
+use crate::SHEET_BYTES;
+use crate::SHEET_LEVELS;
 use crate::records::record_at;
 
 // The formula that s begins with, of at most `levels` levels: a formula inside it is the part of s from its record on.
@@ -34,8 +40,27 @@ pub fn formula_at(s: &[u8], levels: usize) -> Reply
     }
 }
 
+// The bytes, and the levels, that a sheet may have.
+fn bytes_of(limit: Limit) -> usize
+    ensures { λ r. ⌜ r ≡ bytesOf limit ⌝ }
+{
+    match limit {
+        Limit::Sheet => SHEET_BYTES,
+        Limit::Result => RESULT_BYTES,
+    }
+}
+
+fn levels_of(limit: Limit) -> usize
+    ensures { λ r. ⌜ r ≡ levelsOf limit ⌝ }
+{
+    match limit {
+        Limit::Sheet => SHEET_LEVELS,
+        Limit::Result => RESULT_LEVELS,
+    }
+}
+
 // A whole sheet of at most `bytes` bytes and `levels` levels. One that is longer is not walked.
-pub fn read_whole(s: &[u8], bytes: usize, levels: usize) -> Reply
+fn read_within(s: &[u8], bytes: usize, levels: usize) -> Reply
     ensures { λ r. ⌜ r ≡ reading bytes levels (now (s .entry)) ⌝ }
 {
     if bytes < s.len() {
@@ -50,4 +75,11 @@ pub fn read_whole(s: &[u8], bytes: usize, levels: usize) -> Reply
             Reply::Done(k)
         }
     }
+}
+
+// A whole sheet: how many bytes it takes, or the number and the place of the refusal.
+pub fn read_whole(s: &[u8], limit: Limit) -> Reply
+    ensures { λ r. ⌜ r ≡ reading (bytesOf limit) (levelsOf limit) (now (s .entry)) ⌝ }
+{
+    read_within(s, bytes_of(limit), levels_of(limit))
 }

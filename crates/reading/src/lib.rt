@@ -1,12 +1,22 @@
-// Reading a sheet: the limits, what the calls answer, and the two public calls. Both take every sheet and write nothing.
-pub mod formulas;
-pub mod numbers;
-pub mod quantifiers;
-pub mod records;
+// Reading a sheet: the limits, what the calls answer, and the public calls, which take every sheet and write nothing: `read`, `look`,
+// `look_part` and `read_whole`. The other names that are shown ask for something; they are for the crates above, which meet it.
+mod formulas;
+mod numbers;
+mod quantifiers;
+mod records;
 
+pub use formulas::read_whole;
+pub use numbers::int_at;
+pub use numbers::nine;
+pub use numbers::u16_at;
+pub use quantifiers::first_quantifier;
+pub use quantifiers::last_quantifier;
+pub use quantifiers::look_part;
 ghost use mathlib.Core.Path.{_≡_};
+ghost use Prim.Native.Nat.{_+_};
+ghost use Rattle.reading.specs.Limits.{bytesOf, levelsOf};
 ghost use Rattle.reading.specs.Answers.{answerOf, reading};
-ghost use Rattle.reading.specs.Quantifiers.{look};
+ghost use Rattle.reading.specs.Quantifiers.{look, lookPart};
 
 // A sheet: at most this many bytes, nested at most this deep.
 pub const SHEET_BYTES: usize = 4096;
@@ -17,6 +27,12 @@ pub const SHEET_LEVELS: usize = 16;
 pub const RESULT_BYTES: usize = 65536;
 
 pub const RESULT_LEVELS: usize = 17;
+
+// Whose limits a sheet is read by: a sheet's, or a result's, which the test at fractions and the look take too.
+pub enum Limit {
+    Sheet,
+    Result,
+}
 
 // Coefficients, constants, lo and hi lie in -MOST..MOST.
 pub const MOST: u32 = 1073741823;
@@ -54,11 +70,11 @@ pub struct Part {
     pub length: usize,
 }
 
-// The number and the place of the answer for a whole sheet of at most `bytes` bytes and `levels` levels.
-pub fn read(s: &[u8], bytes: usize, levels: usize) -> Answer
-    ensures { λ r. ⌜ r ≡ answerOf (reading bytes levels (now (s .entry))) ⌝ }
+// The number and the place of the answer for a whole sheet.
+pub fn read(s: &[u8], limit: Limit) -> Answer
+    ensures { λ r. ⌜ r ≡ answerOf (reading (bytesOf limit) (levelsOf limit) (now (s .entry))) ⌝ }
 {
-    match formulas::read_whole(s, bytes, levels) {
+    match read_whole(s, limit) {
         Reply::Done(_) => Answer {
             number: 0,
             place: 0,
@@ -67,11 +83,13 @@ pub fn read(s: &[u8], bytes: usize, levels: usize) -> Answer
     }
 }
 
-// The body of the last quantifier, as that part of the caller's bytes: empty where there is none, and where the sheet is refused.
+// The body of the last quantifier, as that part of the caller's bytes: empty where there is none, and where the sheet is refused. It is the part
+// that begins at the look's offset, and no other with the same bytes.
 pub fn look(s: &[u8]) -> &[u8]
     ensures { λ r. ⌜ now r ≡ look (now (s .entry)) ⌝ }
+    ensures { λ r. ⌜ (r .ptr .0 ≡ s .entry .ptr .0) × (r .ptr .1 ≡ lookPart (now (s .entry)) .at + s .entry .ptr .1) ⌝ }
 {
-    let part = quantifiers::look_part(s);
+    let part = look_part(s);
     let at = part.at;
     let end = at + part.length;
     &s[at..end]

@@ -7,8 +7,8 @@ ghost use Rattle.reading.specs.Reading.{treeOf, Begins, Exactly};
 ghost use Rattle.reading.specs.declared.Found.the-variants.{At};
 ghost use Rattle.reading.specs.Quantifiers.{foundOf, firstIn, lastIn, isQuantifier, lookPart};
 use crate::Found;
+use crate::Limit;
 use crate::Part;
-use crate::RESULT_BYTES;
 use crate::RESULT_LEVELS;
 use crate::Reply;
 use crate::formulas::formula_at;
@@ -78,7 +78,7 @@ pub fn formula_length(s: &[u8]) -> usize
 pub fn look_part(s: &[u8]) -> Part
     ensures { λ r. ⌜ r ≡ lookPart (now (s .entry)) ⌝ }
 {
-    match read_whole(s, RESULT_BYTES, RESULT_LEVELS) {
+    match read_whole(s, Limit::Result) {
         Reply::Refused(_, _) => Part { at: 0, length: 0 },
         Reply::Done(_) => match last_quantifier(s) {
             Found::Nothing => Part { at: 0, length: 0 },

@@ -2,13 +2,13 @@
 // sheet's limits, number and place under the look's, and where the look's part begins and how long it is.
 
 fn line(s: &[u8]) {
-    let sheet = reading::read(s, reading::SHEET_BYTES, reading::SHEET_LEVELS);
+    let sheet = reading::read(s, reading::Limit::Sheet);
     cases::show(sheet.number, b" ");
     cases::show(sheet.place, b" ");
-    let result = reading::read(s, reading::RESULT_BYTES, reading::RESULT_LEVELS);
+    let result = reading::read(s, reading::Limit::Result);
     cases::show(result.number, b" ");
     cases::show(result.place, b" ");
-    let part = reading::quantifiers::look_part(s);
+    let part = reading::look_part(s);
     cases::show(part.at, b" ");
     cases::show(part.length, b"\n");
 }

@@ -3,8 +3,8 @@
 
 // The signed number in eight bytes.
 fn value(s: &[u8; 8]) -> i64 {
-    let low = reading::numbers::u32_at(s, 0) as u64;
-    let high = reading::numbers::u32_at(s, 4) as u64;
+    let low = cases::number_at(s, 0);
+    let high = cases::number_at(s, 4);
     let v = low + 4294967296 * high;
     if v <= 9223372036854775807 {
         return v as i64;

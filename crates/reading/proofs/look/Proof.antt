@@ -1,11 +1,12 @@
--- `look`: the part lies in the sheet, and its bytes are those of the definition.
+-- `look`: the part lies in the sheet and begins at the look's offset, and its bytes are those of the definition.
 use borrow.Author.Needs.{needs}
-use mathlib.Core.Path.{_∙_, ap}
+use mathlib.Core.Path.{refl, _∙_, ap}
 use Prim.Native.Nat.{ℕ, _+_, _≤_}
 use native.Mathlib.Nat.{add-sub-cancel-left}
 use native.Mathlib.Omega.{arith}
 use lib.ListN.{length, take, drop}
 use Rattle.reading.specs.Quantifiers.{look}
+use Rattle.reading.specs.declared.Part.{Part}
 use Rattle.reading.proofs.Looking.{look-within}
 use Rattle.reading.proofs.look.Statement.{statement}
 use Rattle.reading.proofs.look.Tie as tie
@@ -36,7 +37,10 @@ returns : tie.Need-returns
 unfolding look
 returns c =
     let a = c .before .before in
-    ap (λ (k : ℕ). take k (drop (a .look-part .result .at) (a .before .before .args .s .now))) (add-sub-cancel-left (a .look-part .result .at) (a .look-part .result .length)) ∙ rw (a .look-part .ensures)
+    let s = a .before .before .args .s in (
+      ap (λ (k : ℕ). take k (drop (a .look-part .result .at) (s .now))) (add-sub-cancel-left (a .look-part .result .at) (a .look-part .result .length)) ∙ rw (a .look-part .ensures),
+      (refl, ap (λ (p : Part). p .at + s .ptr .1) (a .look-part .ensures)),
+    )
 
 pub look-spec : {M : Type 1} → statement M
 look-spec = tie.close (tie.spec look-part-requires add-end sub-result part-result-start part-result-end returns)

@@ -35,7 +35,7 @@ use Rattle.elimination.proofs.lists.is_big.Reads as is-big-reads
 use Rattle.elimination.proofs.lists.opened.Reads as opened-reads
 use Rattle.elimination.proofs.lists.taken.Reads as taken-reads
 use Rattle.elimination.proofs.lists.used_of.Reads as used-of-reads
-use Rattle.reading.proofs.numbers.u16_at.Reads as u16-at-reads
+use Rattle.reading.proofs.u16_at.Reads as u16-at-reads
 
 abbrev μ-copied : Measures 2 copied-kinds.ps ℕ
 μ-copied κs a = length (a .0 .now) + length (a .0 .now) + 1

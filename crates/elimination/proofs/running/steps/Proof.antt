@@ -24,7 +24,7 @@ use Rattle.elimination.proofs.running.length_of.Reads as length-of-read
 use Rattle.elimination.proofs.running.number_of.Reads as number-of-reads
 use Rattle.elimination.proofs.running.offset_of.Reads as offset-of-reads
 use Rattle.elimination.proofs.stepping.one_step.Reads as one-step-reads
-use Rattle.reading.proofs.quantifiers.last_quantifier.Reads as last-quantifier-reads
+use Rattle.reading.proofs.last_quantifier.Reads as last-quantifier-reads
 
 abbrev Inv-loop : tie.InvT-loop
 Inv-loop cur₀ work₀ len n₀ found₀ left₀ cur work n found left =

@@ -30,7 +30,7 @@ use Rattle.elimination.proofs.terms.count_of.Reads as count-of-reads
 use Rattle.elimination.proofs.terms.is_full.Reads as is-full-reads
 use Rattle.elimination.proofs.terms.of_leaf.Reads as of-leaf-reads
 use Rattle.elimination.proofs.terms.used_of.Reads as used-of-reads
-use Rattle.reading.proofs.numbers.u16_at.Reads as u16-at-reads
+use Rattle.reading.proofs.u16_at.Reads as u16-at-reads
 use Rattle.elimination.proofs.terms.+gather+gather_list.{statement}
 use Rattle.elimination.proofs.terms.+gather+gather_list.Tie.{close}
 

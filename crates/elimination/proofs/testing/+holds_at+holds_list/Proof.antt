@@ -30,7 +30,7 @@ use Rattle.elimination.proofs.testing.+holds_at+holds_list.Lts-holds_li
 use Rattle.elimination.proofs.testing.denied.Reads as denied-reads
 use Rattle.elimination.proofs.testing.holds_leaf.Reads as holds-leaf-reads
 use Rattle.elimination.proofs.testing.joined.Reads as joined-reads
-use Rattle.reading.proofs.numbers.u16_at.Reads as u16-at-reads
+use Rattle.reading.proofs.u16_at.Reads as u16-at-reads
 use Rattle.elimination.proofs.testing.+holds_at+holds_list.{statement}
 use Rattle.elimination.proofs.testing.+holds_at+holds_list.Tie.{close}
 

@@ -2,7 +2,7 @@
 use mathlib.Core.Path.{_≡_, refl, sym, _∙_, ap}
 use native.Mathlib.Nat.{mod-lt, pos-of-ne-zero}
 use Rattle.exact.specs.Divisor.{gcdOf}
-use Rattle.exact.proofs.Gcd.{gcd-mod, gcd-zero}
+use Rattle.exact.proofs.Divisors.{gcd-mod, gcd-zero}
 use Rattle.exact.proofs.number.gcd.Statement.{statement}
 use Rattle.exact.proofs.number.gcd.Tie as tie
 

@@ -6,7 +6,7 @@ use native.Mathlib.Omega.{arith}
 use mir.Syntax.{w64}
 use mir.ValLaws.{toZ-ofZ}
 use Rattle.reading.specs.Bytes.{int4}
-use Rattle.reading.proofs.Nine.{Filled, fill-none, fill-more, nine-done}
+use Rattle.reading.proofs.Ints.{Filled, fill-none, fill-more, nine-done}
 use Rattle.reading.proofs.numbers.nine.Statement.{statement}
 use Rattle.reading.proofs.numbers.nine.Tie as tie
 

@@ -58,8 +58,8 @@ enum-told-3 c = search needs
 enum-known-o : tie.Need-enum-known-o
 enum-known-o c = search needs
 
-add-t7 : tie.Need-add-t7
-add-t7 c = omega (arith, found (c .before) .within, c .before .before .before .before .before .before .before .before .good .0 .0)
+add-t8 : tie.Need-add-t8
+add-t8 c = omega (arith, found (c .before) .within, c .before .before .before .before .before .before .before .before .good .0 .0)
 
 add-formula-length : tie.Need-add-formula-length
 add-formula-length c = omega (arith, found (c .before) .within, c .before .before .before .before .before .before .before .before .good .0 .0)
@@ -105,7 +105,7 @@ look-part-spec =
     last-quantifier-requires
     enum-told-3
     enum-known-o
-    add-t7
+    add-t8
     add-formula-length
     sub-formula-length
     part-formula-length-start
