@@ -9,14 +9,14 @@ use lib.ListN.{length}
 use Rattle.reading.specs.Limits.{mostTerms, resultBytes}
 use Rattle.reading.specs.Formula.{Formula, encode, Free}
 use Rattle.reading.specs.Records.{pick}
-use Rattle.reading.specs.Quantifiers.{Quantifier, nothing, at, lastIn}
-use Rattle.reading.proofs.Places.{nothing-free}
+use Rattle.reading.specs.Quantifiers.{Quantifier, nothing, at, lastIn, QuantifierAt}
+use Rattle.reading.proofs.Places.{nothing-free, found-quantifier}
 use Rattle.elimination.specs.Pushing.{push}
 use Rattle.elimination.specs.Points.{terms, points}
-use Rattle.elimination.specs.Steps.{quantifiers, step, numbersFit, refusal, Run, ran, halted, onward, afterStep, run, eliminated}
+use Rattle.elimination.specs.Steps.{quantifiers, step, numbersFit, refusal, Run, ran, halted, onward, afterStep, run, eliminated, steps}
 use Rattle.elimination.proofs.Wide.{Wide}
 use Rattle.elimination.proofs.Around.{free-zero, zero-free}
-use Rattle.elimination.proofs.OneStep.{step-wide, step-fewer, steps, RecordAt, own-record}
+use Rattle.elimination.proofs.OneStep.{step-wide, step-fewer, count-fewer, RecordAt, own-record, steps-stood}
 
 -- ---- one step at a time
 
@@ -38,6 +38,30 @@ run-stops f p b v g n e r = ap (λ (n : ℕ). run n f) (step-fewer f p b v g e) 
 pub run-done : (f : Formula) → lastIn f ≡ nothing → eliminated f ≡ ran f
 unfolding eliminated run
 run-done f e = ap (λ (n : ℕ). run n f) (free-zero f (nothing-free true f .0 e))
+
+-- ---- as many steps as there are quantifiers
+
+pub steps-free : (n : ℕ) (f : Formula) → quantifiers f ≡ n → Free (steps n f)
+steps-free zero f e = zero-free f e
+steps-free (suc n) f e = steps-free n (step f) (count-fewer n f e)
+
+-- the run with its refusals, where nothing is refused, takes just these steps
+onward-ran : (n p : ℕ) (r : Run) (g : Formula) → onward n p r ≡ ran g → r ≡ ran g
+onward-ran zero p r g e = e
+onward-ran (suc n) p r g e = cc
+
+after-ran : (q : Quantifier) (h : Formula) (r : Run) (g : Formula) → afterStep q h r ≡ ran g → r ≡ ran g
+after-ran nothing h r g e = e
+after-ran (at p b x f) h r g e = onward-ran (refusal x f h) p r g e
+
+run-ran : (n : ℕ) (f g : Formula) → run n f ≡ ran g → g ≡ steps n f
+unfolding run
+run-ran zero f g e = cc
+run-ran (suc n) f g e = run-ran n (step f) g (after-ran (lastIn f) (step f) (run n (step f)) g e)
+
+pub eliminated-ran : (f g : Formula) → eliminated f ≡ ran g → g ≡ steps (quantifiers f) f
+unfolding eliminated
+eliminated-ran f g e = run-ran (quantifiers f) f g e
 
 -- ---- what the run ends in
 
@@ -88,9 +112,10 @@ pub record Halted (f : Formula) (e p : ℕ) : Type 0 where
   pub kind : Bool
   pub variable : ℕ
   pub place : RecordAt (encode f) p kind variable
+  pub stands : QuantifierAt p f
 
 pub eliminated-halted : (f : Formula) (e p : ℕ) → eliminated f ≡ halted e p → Halted f e p
 unfolding eliminated
 eliminated-halted f e p h =
     let r : Ends 0 f (halted e p) = subst (Ends 0 f) h (run-ends 0 (quantifiers f) f refl) in
-    record { low = r .6; high = r .7; kind = r .1; variable = r .2; place = own-record (r .0) f p (r .1) (r .2) (r .3) (r .4) }
+    record { low = r .6; high = r .7; kind = r .1; variable = r .2; place = own-record (r .0) f p (r .1) (r .2) (r .3) (r .4); stands = steps-stood (r .0) p f (found-quantifier true (steps (r .0) f) p (r .1) (r .2) (r .3) (r .4)) }

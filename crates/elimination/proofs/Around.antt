@@ -37,7 +37,7 @@ mutual
   zero-free (quant b v f) e = absurd (omega arith)
   zero-free (window v lo hi) e = tt
 
-  all-zero-free : (fs : Formulas) → allQuantifiers fs ≡ 0 → AllFree fs
+  pub all-zero-free : (fs : Formulas) → allQuantifiers fs ≡ 0 → AllFree fs
   all-zero-free none e = tt
   all-zero-free (more f fs) e = (zero-free f (omega arith), all-zero-free fs (omega arith))
 

@@ -9,7 +9,8 @@ use native.Mathlib.Omega.{arith}
 use lib.IntN.{ℤ}
 use lib.ListN.{take}
 use Rattle.reading.specs.Limits.{variables, lastVariable, sheetLevels}
-use Rattle.reading.specs.Formula.{Comparison, Formula, Formulas, atom, not, list, quant, window, none, more, Free}
+use Rattle.reading.specs.Bytes.{Bytes}
+use Rattle.reading.specs.Formula.{Comparison, Formula, Formulas, atom, not, list, quant, window, none, more, encode, Fits, Free}
 use Rattle.reading.specs.Records.{pick}
 use Rattle.exact.specs.Numbers.{at, isZero}
 use Rattle.exact.specs.Atoms.{Came, holds, zeros, settled, nowhere, atomAt}
@@ -17,14 +18,13 @@ use Rattle.exact.proofs.Atoms.{settled-sure}
 use Rattle.elimination.specs.Pushing.{flip, push}
 use Rattle.elimination.specs.Lists.{Known, known, sureRecord, decidedBy, keep, stay, closed, listed}
 use Rattle.elimination.specs.Copies.{atomBy, copy, copyAll}
-use Rattle.elimination.specs.Steps.{quantifiers}
-use Rattle.elimination.specs.Eliminate.{Result, verdictBy, finished, eliminate}
+use Rattle.elimination.specs.Steps.{quantifiers, steps}
+use Rattle.elimination.specs.Eliminate.{Result, verdictBy, finished, resultOf, eliminate}
 use Rattle.elimination.specs.Meaning.{Values, Means}
 use Rattle.elimination.specs.Variables.{FreeIn, Closed}
 use Rattle.elimination.proofs.Truth.{Rows, AllRows, fits-named}
-use Rattle.elimination.proofs.OneStep.{steps}
-use Rattle.elimination.proofs.Keeping.{steps-free, result}
-use Rattle.elimination.proofs.Answering.{Eliminated}
+use Rattle.elimination.proofs.AllSteps.{steps-free}
+use Rattle.elimination.proofs.Answering.{eliminate-delivers}
 use Rattle.elimination.proofs.Demand3.{result-means}
 use Rattle.elimination.proofs.Variables.{Without, Or, Absent, absent-or-free, push-rows, steps-absent}
 
@@ -94,8 +94,8 @@ closed-absent f h v l = go (absent-or-free v f)
     go (inl a) = a
     go (inr k) = absurd (h v l k)
 
-pub closed-sure : (f : Formula) → Closed f → Sure (result f)
-unfolding result
+pub closed-sure : (f : Formula) → Closed f → Sure (resultOf f)
+unfolding resultOf
 closed-sure f h = finished-sure (steps (quantifiers f) f) (steps-free (quantifiers f) f refl) (λ v l. steps-absent (quantifiers f) v f l (closed-absent f h v l))
 
 -- the true record's verdict is 1, the false record's 0
@@ -103,30 +103,31 @@ sure-verdict : (b : Bool) → verdictBy (known (sureRecord b)) ≡ pick b 1 0
 sure-verdict true = refl
 sure-verdict false = refl
 
-module _ (sheet out work : List ℕ) (e : Eliminated sheet out work) (shut : Closed (e .formula)) where
+-- of the closed formula f that a sheet holds, where the answer is 0
+module _ (f : Formula) (sheet out work : List ℕ) (ok : Bytes sheet) (w : Fits sheetLevels f) (e : sheet ≡ encode f) (z : eliminate sheet out work .number ≡ 0) (shut : Closed f) where
   abbrev verdict : ℕ
   verdict = eliminate sheet out work .verdict
 
-  verdict-is : (b : Bool) → result (e .formula) ≡ sureRecord b → verdict ≡ pick b 1 0
-  verdict-is b i = ap (λ (r : Result). r .verdict) (e .answer) ∙ ap (λ (g : Formula). verdictBy (known g)) i ∙ sure-verdict b
+  verdict-is : (b : Bool) → resultOf f ≡ sureRecord b → verdict ≡ pick b 1 0
+  verdict-is b i = ap (λ (r : Result). r .verdict) (eliminate-delivers f sheet out work ok w e z .answer) ∙ ap (λ (g : Formula). verdictBy (known g)) i ∙ sure-verdict b
 
   -- the verdict is 1 or 0, never 2
   pub closed-decided : (b : Bool) × (verdict ≡ pick b 1 0)
-  closed-decided = (closed-sure (e .formula) shut .0, verdict-is _ (closed-sure (e .formula) shut .1))
+  closed-decided = (closed-sure f shut .0, verdict-is _ (closed-sure f shut .1))
 
   -- 1 exactly when the sheet is true, 0 exactly when it is false
-  pub closed-verdict : (ρ : Values) → ((verdict ≡ 1) ↔ Means (e .formula) ρ) × ((verdict ≡ 0) ↔ (¬ Means (e .formula) ρ))
-  closed-verdict ρ = go (closed-sure (e .formula) shut .0) (closed-sure (e .formula) shut .1)
+  pub closed-verdict : (ρ : Values) → ((verdict ≡ 1) ↔ Means f ρ) × ((verdict ≡ 0) ↔ (¬ Means f ρ))
+  closed-verdict ρ = go (closed-sure f shut .0) (closed-sure f shut .1)
     where
-      same : Means (result (e .formula)) ρ ↔ Means (e .formula) ρ
-      same = result-means (e .formula) (fits-named sheetLevels (e .formula) (e .fits)) ρ
+      same : Means (resultOf f) ρ ↔ Means f ρ
+      same = result-means f (fits-named sheetLevels f w) ρ
 
-      go : (b : Bool) → result (e .formula) ≡ sureRecord b → ((verdict ≡ 1) ↔ Means (e .formula) ρ) × ((verdict ≡ 0) ↔ (¬ Means (e .formula) ρ))
+      go : (b : Bool) → resultOf f ≡ sureRecord b → ((verdict ≡ 1) ↔ Means f ρ) × ((verdict ≡ 0) ↔ (¬ Means f ρ))
       go true i =
-          let m : Means (e .formula) ρ = same .0 (subst (λ (g : Formula). Means g ρ) (sym i) tt) in
+          let m : Means f ρ = same .0 (subst (λ (g : Formula). Means g ρ) (sym i) tt) in
           let v : verdict ≡ 1 = verdict-is true i in
           ((λ _. m, λ _. v), (λ z. absurd (omega arith), λ n. absurd (n m)))
       go false i =
-          let n : (¬ Means (e .formula) ρ) = (λ m. subst (λ (g : Formula). Means g ρ) i (same .1 m)) in
+          let n : (¬ Means f ρ) = (λ m. subst (λ (g : Formula). Means g ρ) i (same .1 m)) in
           let v : verdict ≡ 0 = verdict-is false i in
           ((λ z. absurd (omega arith), λ m. absurd (n m)), (λ _. n, λ _. v))

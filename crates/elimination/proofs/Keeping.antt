@@ -1,5 +1,5 @@
--- What keeps the truth at every vector: a step, the steps one after the other, and the finishing pass. `result` is the whole construction without the
--- tests that refuse; where none refuses, the run takes the same steps. Assumes nothing.
+-- What keeps the truth at every vector: a step, the steps one after the other, and the finishing pass. `resultOf` is the whole construction. Assumes
+-- nothing.
 use mathlib.Core.Path.{_≡_, refl, _∙_, ap}
 use mathlib.Core.Logic.{_↔_}
 use mathlib.Core.Bool.{Bool, false, cond}
@@ -8,11 +8,10 @@ use native.Mathlib.Omega.{arith}
 use lib.IntN.{ℤ}
 use borrow.Author.Tests.{ne-eqb}
 use Rattle.reading.specs.Formula.{Formula, Formulas, atom, not, list, quant, window, none, more, Free}
-use Rattle.reading.specs.Quantifiers.{Quantifier, nothing, at, lastIn}
 use Rattle.exact.specs.Atoms.{nowhere}
 use Rattle.elimination.specs.Pushing.{push}
-use Rattle.elimination.specs.Steps.{replacement, quantifiers, allQuantifiers, ifNone, step, stepIn, refusal, Run, ran, onward, afterStep, run, eliminated}
-use Rattle.elimination.specs.Eliminate.{finished}
+use Rattle.elimination.specs.Steps.{replacement, quantifiers, allQuantifiers, ifNone, step, stepIn, steps}
+use Rattle.elimination.specs.Eliminate.{finished, resultOf}
 use Rattle.elimination.specs.Meaning.{Fraction}
 use Rattle.elimination.proofs.Sealed.{_⊗_}
 use Rattle.elimination.proofs.Signs.{plus, sgn, up-⊗}
@@ -21,7 +20,7 @@ use Rattle.elimination.proofs.Fractions.{up}
 use Rattle.elimination.proofs.Truth.{Named, AllNamed, Flat, flat-free, flat-named, Holds, AllHold, decides, iff-same, iff-sym, iff-trans, not-iff, both-iff, over-each, T-same}
 use Rattle.elimination.proofs.Pushed.{push-truth, push-flat}
 use Rattle.elimination.proofs.Around.{zero-free}
-use Rattle.elimination.proofs.OneStep.{steps, count-fewer}
+use Rattle.elimination.proofs.AllSteps.{steps-free}
 use Rattle.elimination.proofs.Agreeing.{nowhere-truth, copy-flat, replacement-flat, replacement-holds}
 
 -- ---- a step keeps the truth
@@ -94,29 +93,6 @@ pub steps-named : (n : ℕ) (f : Formula) → Named f → Named (steps n f)
 steps-named zero f m = m
 steps-named (suc n) f m = steps-named n (step f) (step-named f m)
 
-pub steps-free : (n : ℕ) (f : Formula) → quantifiers f ≡ n → Free (steps n f)
-steps-free zero f e = zero-free f e
-steps-free (suc n) f e = steps-free n (step f) (count-fewer n f e)
-
--- ---- the run with its refusals, where nothing is refused
-
-onward-ran : (n p : ℕ) (r : Run) (g : Formula) → onward n p r ≡ ran g → r ≡ ran g
-onward-ran zero p r g e = e
-onward-ran (suc n) p r g e = cc
-
-after-ran : (q : Quantifier) (h : Formula) (r : Run) (g : Formula) → afterStep q h r ≡ ran g → r ≡ ran g
-after-ran nothing h r g e = e
-after-ran (at p b x f) h r g e = onward-ran (refusal x f h) p r g e
-
-run-ran : (n : ℕ) (f g : Formula) → run n f ≡ ran g → g ≡ steps n f
-unfolding run
-run-ran zero f g e = cc
-run-ran (suc n) f g e = run-ran n (step f) g (after-ran (lastIn f) (step f) (run n (step f)) g e)
-
-pub eliminated-ran : (f g : Formula) → eliminated f ≡ ran g → g ≡ steps (quantifiers f) f
-unfolding eliminated
-eliminated-ran f g e = run-ran (quantifiers f) f g e
-
 -- ---- the finishing pass
 
 pub finished-flat : (f : Formula) → Free f → Flat (finished f)
@@ -128,17 +104,14 @@ unfolding finished
 finished-kept f m q w base = iff-trans (decides (finished f) w (flat-free (finished f) (finished-flat f q)))
     (iff-trans (T-same (nowhere-truth (push false f) w base (push-flat false f q) ∙ push-truth false f w m)) (iff-sym (decides f w q)))
 
--- ---- the result
+-- ---- the whole construction
 
-unfoldable pub result : Formula → Formula
-result f = finished (steps (quantifiers f) f)
-
-pub result-flat : (f : Formula) → Flat (result f)
-unfolding result
+pub result-flat : (f : Formula) → Flat (resultOf f)
+unfolding resultOf
 result-flat f = finished-flat (steps (quantifiers f) f) (steps-free (quantifiers f) f refl)
 
-pub result-kept : (f : Formula) → Named f → Kept (result f) f
-unfolding result
+pub result-kept : (f : Formula) → Named f → Kept (resultOf f) f
+unfolding resultOf
 result-kept f m w base =
     let g = steps (quantifiers f) f in
     iff-trans (finished-kept g (steps-named (quantifiers f) f m) (steps-free (quantifiers f) f refl) w base) (steps-kept (quantifiers f) f m w base)

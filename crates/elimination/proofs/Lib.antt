@@ -7,7 +7,7 @@ pub mod Fitting
 pub mod Around
 pub mod OneStep
 pub mod AllSteps
-pub mod Readable
+pub mod Answering
 pub mod Sealed
 pub mod Signs
 pub mod Sums
@@ -20,8 +20,6 @@ pub mod Marking
 pub mod Agreeing
 pub mod Keeping
 pub mod Valuing
-pub mod Refusing
-pub mod Answering
 pub mod Demand3
 pub mod Variables
 pub mod Closed

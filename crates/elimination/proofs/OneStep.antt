@@ -2,6 +2,7 @@
 -- quantifier are still the sheet's own when its step runs, so its offset is that in the sheet.' Assumes nothing.
 use Prim.Native.Nat.{ℕ, zero, suc, _+_, _-_, _≤_}
 use mathlib.Core.Path.{_≡_, refl, sym, _∙_, ap, subst}
+use mathlib.Core.Logic.{inl, inr}
 use mathlib.Core.Bool.{Bool, true}
 use mathlib.Core.List.{List, _++_}
 use native.Mathlib.Nat.{le-refl}
@@ -9,12 +10,12 @@ use native.Mathlib.Omega.{arith}
 use lib.ListN.{length, length-append, length-take, take, drop}
 use lib.Seq.{take-add, take-append-le, drop-at, length-take-le}
 use Rattle.reading.specs.Formula.{Formula, Formulas, atom, not, list, quant, window, none, more, quantL, fieldBytes, recordBytes, encode, encodes, Fits, Free, AllFree}
-use Rattle.reading.specs.Quantifiers.{Quantifier, nothing, at, seek, seeks, lastIn}
-use Rattle.reading.proofs.Places.{nothing-free, last-free}
-use Rattle.elimination.specs.Steps.{replacement, quantifiers, allQuantifiers, ifNone, step, stepIn, refusal}
+use Rattle.reading.specs.Quantifiers.{Quantifier, nothing, at, seek, seeks, lastIn, QuantifierAt, QuantifierAtAny}
+use Rattle.reading.proofs.Places.{nothing-free, last-free, free-nowhere, all-free-nowhere}
+use Rattle.elimination.specs.Steps.{replacement, quantifiers, allQuantifiers, ifNone, step, stepIn, refusal, steps}
 use Rattle.elimination.proofs.Wide.{Wide, AllWide, wide-more, wide-fits}
 use Rattle.elimination.proofs.Fitting.{allowed, replacement-fits, replacement-free}
-use Rattle.elimination.proofs.Around.{Around, Amid, whole, underNot, underList, underQuantifier, inFirst, inLater, fill, fillAmid, Rear, RearAmid, members-are, front, frontAmid, rear, fill-bytes, free-zero, all-free-zero, free-seek, all-free-seek, Last, has-last, last-is}
+use Rattle.elimination.proofs.Around.{Around, Amid, whole, underNot, underList, underQuantifier, inFirst, inLater, fill, fillAmid, Rear, RearAmid, members-are, front, frontAmid, rear, fill-bytes, free-zero, all-free-zero, zero-free, all-zero-free, free-seek, all-free-seek, Last, has-last, last-is}
 
 -- ---- the bytes
 
@@ -193,10 +194,6 @@ none-step f e = free-step f (nothing-free true f .0 e)
 
 -- ---- several steps
 
-abbrev pub steps : ℕ → Formula → Formula
-steps zero f = f
-steps (suc n) f = steps n (step f)
-
 -- steps move the last quantifier only towards the front
 step-before : (n : ℕ) (f : Formula) → Before n (lastIn f) → Before n (lastIn (step f))
 step-before n f w = go (lastIn f) refl w
@@ -227,6 +224,41 @@ own-bytes zero f p b v g e = refl
 own-bytes (suc n) f p b v g e =
     own-bytes n (step f) p b v g e
     ∙ step-ahead f (p + 6) (λ o c u k h. subst (Before o) e (steps-before n o (step f) (falls f o c u k h)))
+
+-- ---- the quantifiers that are left
+
+quant-stood : (p : ℕ) (b : Bool) (v : ℕ) (f g : Formula) (n : ℕ) → quantifiers f ≡ n → (QuantifierAt (p - 6) g → QuantifierAt (p - 6) f)
+    → QuantifierAt p (ifNone n (replacement b v f) (quant b v g)) → QuantifierAt p (quant b v f)
+quant-stood p b v f g zero e h q = absurd (free-nowhere p (replacement b v f) (replacement-free b v f (zero-free f e)) q)
+quant-stood p b v f g (suc n) e h (inl q) = inl q
+quant-stood p b v f g (suc n) e h (inr q) = inr (q .0, h (q .1))
+
+more-stood : (p : ℕ) (f g : Formula) (fs gs : Formulas) (n : ℕ) → allQuantifiers fs ≡ n → (QuantifierAt p g → QuantifierAt p f)
+    → (QuantifierAtAny (p - length (encode f)) gs → QuantifierAtAny (p - length (encode f)) fs)
+    → QuantifierAtAny p (ifNone n (more g fs) (more f gs)) → QuantifierAtAny p (more f fs)
+more-stood p f g fs gs zero e h i (inl q) = inl (h q)
+more-stood p f g fs gs zero e h i (inr q) = absurd (all-free-nowhere (p - length (encode g)) fs (all-zero-free fs e) (q .1))
+more-stood p f g fs gs (suc n) e h i (inl q) = inl q
+more-stood p f g fs gs (suc n) e h i (inr q) = inr (q .0, i (q .1))
+
+-- a quantifier after a step stood there before it
+mutual
+  unfolding step
+
+  step-stood : (p : ℕ) (f : Formula) → QuantifierAt p (step f) → QuantifierAt p f
+  step-stood p (atom c ns) q = q
+  step-stood p (not f) q = (q .0, step-stood (p - 4) f (q .1))
+  step-stood p (list b fs) q = (q .0, stepIn-stood (p - 6) fs (q .1))
+  step-stood p (quant b v f) q = quant-stood p b v f (step f) (quantifiers f) refl (λ h. step-stood (p - 6) f h) q
+  step-stood p (window v lo hi) q = q
+
+  stepIn-stood : (p : ℕ) (fs : Formulas) → QuantifierAtAny p (stepIn fs) → QuantifierAtAny p fs
+  stepIn-stood p none q = q
+  stepIn-stood p (more f fs) q = more-stood p f (step f) fs (stepIn fs) (allQuantifiers fs) refl (λ h. step-stood p f h) (λ h. stepIn-stood (p - length (encode f)) fs h) q
+
+pub steps-stood : (n p : ℕ) (f : Formula) → QuantifierAt p (steps n f) → QuantifierAt p f
+steps-stood zero p f q = q
+steps-stood (suc n) p f q = step-stood p f (steps-stood n p (step f) q)
 
 -- bytes from p on, of as many as are taken
 part-of-take : (p n : ℕ) (s : List ℕ) → p ≤ length s → drop p (take (p + n) s) ≡ take n (drop p s)

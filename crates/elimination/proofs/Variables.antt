@@ -28,14 +28,13 @@ use Rattle.exact.proofs.Atoms.{point-is}
 use Rattle.elimination.specs.Pushing.{flip, push, pushs, pushAtom, pushWindow}
 use Rattle.elimination.specs.Copies.{atomBy, copy, copyAll}
 use Rattle.elimination.specs.Points.{insert, gather, gatherAll, terms, midpoints, allMidpoints, points}
-use Rattle.elimination.specs.Steps.{copies, replacement, quantifiers, allQuantifiers, ifNone, step, stepIn}
-use Rattle.elimination.specs.Eliminate.{finished}
+use Rattle.elimination.specs.Steps.{copies, replacement, quantifiers, allQuantifiers, ifNone, step, stepIn, steps}
+use Rattle.elimination.specs.Eliminate.{finished, resultOf}
 use Rattle.elimination.specs.Variables.{FreeIn, FreeInAny}
 use Rattle.elimination.proofs.Truth.{Rows, AllRows}
 use Rattle.elimination.proofs.Listed.{listed-rows}
 use Rattle.elimination.proofs.Around.{zero-free}
-use Rattle.elimination.proofs.OneStep.{steps}
-use Rattle.elimination.proofs.Keeping.{steps-free, result}
+use Rattle.elimination.proofs.AllSteps.{steps-free}
 
 -- ---- number v of the rows that are made
 
@@ -375,8 +374,8 @@ finished-absent : (v : ℕ) (f : Formula) → v ≤ lastVariable → Free f → 
 unfolding finished
 finished-absent v f l q h = rows-absent v (finished f) (copy-rows ⊥ v l nowhere (push false f) (λ e. e) (push-rows ⊥ v l false f q (inr h)))
 
-result-absent : (v : ℕ) (f : Formula) → v ≤ lastVariable → Absent v f → Absent v (result f)
-unfolding result
+result-absent : (v : ℕ) (f : Formula) → v ≤ lastVariable → Absent v f → Absent v (resultOf f)
+unfolding resultOf
 result-absent v f l h = finished-absent v (steps (quantifiers f) f) l (steps-free (quantifiers f) f refl) (steps-absent (quantifiers f) v f l h)
 
 -- ---- no result's free variables are other than the sheet's
@@ -387,5 +386,5 @@ step-free-in f v l = no-freer v f (step f) (step-absent v f l)
 pub finished-free-in : (f : Formula) (v : ℕ) → v ≤ lastVariable → Free f → FreeIn v (finished f) → FreeIn v f
 finished-free-in f v l q = no-freer v f (finished f) (finished-absent v f l q)
 
-pub result-free-in : (f : Formula) (v : ℕ) → v ≤ lastVariable → FreeIn v (result f) → FreeIn v f
-result-free-in f v l = no-freer v f (result f) (result-absent v f l)
+pub result-free-in : (f : Formula) (v : ℕ) → v ≤ lastVariable → FreeIn v (resultOf f) → FreeIn v f
+result-free-in f v l = no-freer v f (resultOf f) (result-absent v f l)

@@ -23,7 +23,8 @@ use Rattle.elimination.specs.Steps.{replacement, step, refusal, numbersF
 use Rattle.elimination.specs.Points.{terms, points}
 use Rattle.elimination.specs.Pushing.{push}
 use Rattle.elimination.specs.Stepping.{held, Stands, refusalAt, steppedOf, Steps}
-use Rattle.elimination.specs.Splicing.{Put, Makes, early, MadeOf, splicedEnd, Splices}
+use Rattle.elimination.specs.Trying.{Copiable}
+use Rattle.elimination.specs.Splicing.{Put, early, MadeOf, splicedEnd, Splices}
 use Rattle.elimination.specs.declared.Made.{Made}
 use Rattle.elimination.specs.declared.Stepped.{Stepped}
 use Rattle.elimination.specs.declared.Stepped.the-variants as Stepped
@@ -115,7 +116,7 @@ module _ (len o : ℕ) (cur : List ℕ) (st : Stands len cur) (q : Body true (ta
   part-tree : treeOf (take (len - (o + 6)) (drop (o + 6) cur)) ≡ q .body
   part-tree = tree-is part-begins
 
-  pub part-makes : (x n : ℕ) → x ≡ le2 cur (o + 4) → resultBytes + 6 + 7 * (len - 6) ≤ n → Makes (take (len - (o + 6)) (drop (o + 6) cur)) x n
+  pub part-makes : (x n : ℕ) → x ≡ le2 cur (o + 4) → resultBytes + 6 + 7 * (len - 6) ≤ n → Copiable (take (len - (o + 6)) (drop (o + 6) cur)) x n
   part-makes x n e h =
       record {
         begins = begins-tree part-begins;

@@ -129,6 +129,12 @@ copiedOf (truth v) used to = Decided used v
 copiedOf (kept g) used to = Kept used (to + length (encode g))
 copiedOf big used to = Big
 
+-- 01's number for each case: 11 is a reduced number outside −M..M
+abbrev pub copiedNo : Copied → ℕ
+copiedNo (Decided used v) = 0
+copiedNo (Kept used e) = 0
+copiedNo Big = 11
+
 -- r is the answer for c, whose source has `used` bytes; c was written at `to` over o₀, and o is there now
 pub record Wrote (c : Come) (used to : ℕ) (o₀ o : List ℕ) (r : Copied) : Type 0 where
   pub answer : r ≡ copiedOf c used to

@@ -16,7 +16,7 @@ use Rattle.exact.specs.Atoms.{nowhere}
 use Rattle.elimination.specs.Pushing.{push}
 use Rattle.elimination.specs.Lists.{Known, decided, unknown, known}
 use Rattle.elimination.specs.Copies.{copy}
-use Rattle.elimination.specs.Steps.{Run, ran, halted, eliminated}
+use Rattle.elimination.specs.Steps.{quantifiers, steps, Run, ran, halted, eliminated}
 
 -- number, verdict, place and length, and all bytes of the result and the work buffer
 pub record Result : Type 0 where
@@ -58,6 +58,12 @@ delivered g result work = record {
 unfoldable pub finished : Formula → Formula
 unfolding copy push
 finished f = copy nowhere (push false f)
+
+-- the whole construction: as many steps as there are quantifiers, and then the finishing pass. The tests that refuse only decide whether it is
+-- delivered.
+unfoldable pub resultOf : Formula → Formula
+unfolding finished
+resultOf f = finished (steps (quantifiers f) f)
 
 -- the finishing pass can meet 12 only; its place is the sheet's length
 abbrev pub byRun : ℕ → Run → List ℕ → List ℕ → Result

@@ -38,6 +38,11 @@ among t (u ∷ us) = pick (sameRow u t) true (among t us)
 abbrev pub gatheredOf : ℕ → List (List ℤ) → Gathered
 gatheredOf used us = pick (leb (length us) mostTerms) (Fine used (length us)) Full
 
+-- 01's number for each case: 10 is more than 64 boundary terms
+abbrev pub gatheredNo : Gathered → ℕ
+gatheredNo (Fine used n) = 0
+gatheredNo Full = 10
+
 abbrev pub fullOf : Gathered → Bool
 fullOf (Fine used n) = false
 fullOf Full = true

@@ -1,20 +1,22 @@
 -- What the parts of a step promise: the replacement at the start of the output, and the splice, which puts it in place of the quantifier and moves
 -- the bytes after it.
-use Prim.Native.Nat.{ℕ, _+_, _-_, _*_, _≤_, _<_}
+use Prim.Native.Nat.{ℕ, _+_, _-_, _≤_, _<_}
 use mathlib.Core.Path.{_≡_}
 use mathlib.Core.Bool.{Bool, true, false}
 use mathlib.Core.List.{List, _++_}
 use lib.Dec.{ltb}
 use lib.ListN.{length, take, drop}
-use Rattle.reading.specs.Limits.{mostTerms, resultBytes, variables}
-use Rattle.reading.specs.Formula.{Formula, Formulas, list, none, encode, Free}
-use Rattle.reading.specs.Reading.{treeOf, Begins}
+use Rattle.reading.specs.Limits.{mostTerms, resultBytes}
+use Rattle.reading.specs.Formula.{Formula, Formulas, list, none, encode}
 use Rattle.reading.specs.Records.{pick}
 use Rattle.elimination.specs.Pushing.{push}
 use Rattle.elimination.specs.Points.{terms, points}
 use Rattle.elimination.specs.Steps.{replacement, numbersFit}
-use Rattle.elimination.specs.Copying.{Come, truth, kept, big, going, closeOf, Space}
+use Rattle.elimination.specs.Copying.{Come, truth, kept, big, going, closeOf, copiedNo, Space}
+use Rattle.elimination.specs.Gathering.{gatheredNo}
 use Rattle.elimination.specs.Listing.{Lists}
+use Rattle.elimination.specs.declared.Copied.the-variants.{Big}
+use Rattle.elimination.specs.declared.Gathered.the-variants.{Full}
 use Rattle.elimination.specs.declared.Copies.{Copies}
 use Rattle.elimination.specs.declared.Made.{Made}
 use Rattle.elimination.specs.declared.Made.the-variants as Made
@@ -43,17 +45,10 @@ pub record Closable (c : Copies) (n : ℕ) : Type 0 where
 abbrev pub Replaces : Copies → List ℕ → List ℕ → ℕ → Type 0
 Replaces c o o′ r = (all x : Bool) (gs : Formulas) (o₀ : List ℕ) → Lists all (going x gs) c o₀ o → Put (formulaFor (closeOf all x gs)) o′ r
 
--- a body with no quantifier, its variable, and an output of n bytes with room for its copies
-pub record Makes (s : List ℕ) (x n : ℕ) : Type 0 where
-  pub begins : Begins s (treeOf s)
-  pub free : Free (treeOf s)
-  pub low : x < variables
-  pub room : resultBytes + 6 + 7 * length (encode (treeOf s)) ≤ n
-
 -- 10, 11 or none (0): what is judged before the bytes of the replacement are counted
 unfoldable pub early : ℕ → Formula → ℕ
 unfolding terms points numbersFit push
-early x f = pick (ltb mostTerms (length (terms x f))) 10 (pick (numbersFit (points x (terms x f)) (push false f)) 0 11)
+early x f = pick (ltb mostTerms (length (terms x f))) (gatheredNo Full) (pick (numbersFit (points x (terms x f)) (push false f)) 0 (copiedNo Big))
 
 -- what the replacement of the quantifier of x over f came to, where o is the output
 abbrev pub MadeOf : Bool → ℕ → Formula → List ℕ → Made → Type 0

@@ -57,6 +57,11 @@ unfoldable mutual
   stepIn none = none
   stepIn (more f fs) = ifNone (allQuantifiers fs) (more (step f) fs) (more f (stepIn fs))
 
+-- n steps, one after the other
+abbrev pub steps : ℕ → Formula → Formula
+steps zero f = f
+steps (suc n) f = steps n (step f)
+
 -- ---- the tests of a step
 
 -- every point's numbers, and every new atom's, lie in −M..M

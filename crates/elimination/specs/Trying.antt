@@ -15,7 +15,7 @@ use Rattle.elimination.specs.Stepping.{tallyAll}
 use Rattle.elimination.specs.declared.Copies.{Copies}
 
 -- s begins with a body without quantifiers, x is a variable, and an output of n bytes has room for the list of the copies and one copy more
-pub record Body (s : List ℕ) (x n : ℕ) : Type 0 where
+pub record Copiable (s : List ℕ) (x n : ℕ) : Type 0 where
   pub begins : Begins s (treeOf s)
   pub free : Free (treeOf s)
   pub low : x < variables

@@ -20,7 +20,8 @@ ghost use Rattle.reading.specs.Reading.{treeOf};
 ghost use Rattle.reading.specs.Quantifiers.{lastIn, foundOf};
 ghost use Rattle.reading.specs.declared.Found.the-variants.{At};
 ghost use Rattle.elimination.specs.Stepping.{held, Stands, Steps};
-ghost use Rattle.elimination.specs.Splicing.{Put, Closable, Replaces, Makes, MadeOf, Places, Splices};
+ghost use Rattle.elimination.specs.Splicing.{Put, Closable, Replaces, MadeOf, Places, Splices};
+ghost use Rattle.elimination.specs.Trying.{Copiable};
 
 // The kind of EVERY.
 const EVERY: u16 = 8;
@@ -63,7 +64,7 @@ fn replaced(c: Copies, out: &mut [u8]) -> usize
 
 // The replacement of a quantifier of x over the body that s begins with, at the start of out.
 fn made(s: &[u8], x: usize, all: bool, out: &mut [u8]) -> Made
-    requires { ⌜ Makes (now s) x (length (now out)) ⌝ }
+    requires { ⌜ Copiable (now s) x (length (now out)) ⌝ }
     ensures { λ r. ⌜ MadeOf all x (treeOf (now (s .entry))) (now (out .exit)) r ⌝ }
 {
     let mut ts = [0i64; 640];

@@ -7,14 +7,13 @@ use exact::Point;
 use exact::PointKind;
 use exact::midpoint;
 use exact::within_all;
-ghost use Prim.Native.Nat.{_+_, _*_, _≤_, _<_};
+ghost use Prim.Native.Nat.{_<_};
 ghost use mathlib.Core.Bool.{false};
 ghost use mathlib.Core.List.{[], _∷_};
 ghost use lib.IntN.{pos};
 ghost use lib.ListN.{length, drop, replicate};
-ghost use Rattle.reading.specs.Limits.{variables, resultBytes};
-ghost use Rattle.reading.specs.Formula.{encode, Free, none};
-ghost use Rattle.reading.specs.Reading.{treeOf, Begins};
+ghost use Rattle.reading.specs.Formula.{none};
+ghost use Rattle.reading.specs.Reading.{treeOf};
 ghost use Rattle.exact.specs.Terms.{midpoint};
 ghost use Rattle.exact.specs.Atoms.{spotBy, here};
 ghost use Rattle.elimination.specs.Points.{midpoints, allMidpoints, points};
@@ -22,11 +21,11 @@ ghost use Rattle.elimination.specs.Gathering.{rowAt, rowsOf, Table};
 ghost use Rattle.elimination.specs.Copying.{going};
 ghost use Rattle.elimination.specs.Listing.{Lists};
 ghost use Rattle.elimination.specs.Stepping.{tallyAll};
-ghost use Rattle.elimination.specs.Trying.{Body, Holding, Tries};
+ghost use Rattle.elimination.specs.Trying.{Copiable, Holding, Tries};
 
 // The copy at a point that is no fraction.
 fn far(s: &[u8], kind: PointKind, x: usize, c: Copies, out: &mut [u8]) -> Copies
-    requires { ⌜ Body (now s) x (length (now out)) ⌝ }
+    requires { ⌜ Copiable (now s) x (length (now out)) ⌝ }
     requires { ⌜ Holding c (now out) ⌝ }
     ensures { λ r. ⌜ Tries c (spotBy kind x (replicate 10 (pos 0)) ∷ []) (treeOf (now (s .entry))) (now (out .entry)) (now (out .exit)) r ⌝ }
 {
@@ -49,7 +48,7 @@ fn at_midpoint(
     c: Copies,
     out: &mut [u8],
 ) -> Copies
-    requires { ⌜ Body (now s) x (length (now out)) ⌝ }
+    requires { ⌜ Copiable (now s) x (length (now out)) ⌝ }
     requires { ⌜ Table (now ts) n ⌝ }
     requires { ⌜ (i < n) × (j < n) ⌝ }
     requires { ⌜ Holding c (now out) ⌝ }
@@ -78,7 +77,7 @@ fn at_midpoint(
 
 // The copies at the midpoints of term i with itself and each later term.
 fn row_of(s: &[u8], x: usize, ts: &[i64], n: usize, i: usize, c: Copies, out: &mut [u8]) -> Copies
-    requires { ⌜ Body (now s) x (length (now out)) ⌝ }
+    requires { ⌜ Copiable (now s) x (length (now out)) ⌝ }
     requires { ⌜ Table (now ts) n ⌝ }
     requires { ⌜ i < n ⌝ }
     requires { ⌜ Holding c (now out) ⌝ }
@@ -98,7 +97,7 @@ fn row_of(s: &[u8], x: usize, ts: &[i64], n: usize, i: usize, c: Copies, out: &m
 
 // The copies at the midpoints of each two terms.
 fn rows(s: &[u8], x: usize, ts: &[i64], n: usize, c: Copies, out: &mut [u8]) -> Copies
-    requires { ⌜ Body (now s) x (length (now out)) ⌝ }
+    requires { ⌜ Copiable (now s) x (length (now out)) ⌝ }
     requires { ⌜ Table (now ts) n ⌝ }
     requires { ⌜ Holding c (now out) ⌝ }
     ensures { λ r. ⌜ Tries c (allMidpoints x (rowsOf n (now (ts .entry)))) (treeOf (now (s .entry))) (now (out .entry)) (now (out .exit)) r ⌝ }
@@ -117,10 +116,8 @@ fn rows(s: &[u8], x: usize, ts: &[i64], n: usize, c: Copies, out: &mut [u8]) -> 
 
 // The list of the copies of the formula at the start of s, at all points of x; the table ts holds its n boundary terms.
 pub fn all_copies(s: &[u8], x: usize, ts: &[i64], n: usize, all: bool, out: &mut [u8]) -> Copies
-    requires { ⌜ Begins (now s) (treeOf (now s)) × Free (treeOf (now s)) ⌝ }
-    requires { ⌜ x < variables ⌝ }
+    requires { ⌜ Copiable (now s) x (length (now out)) ⌝ }
     requires { ⌜ Table (now ts) n ⌝ }
-    requires { ⌜ resultBytes + 6 + 7 * length (encode (treeOf (now s))) ≤ length (now out) ⌝ }
     ensures { λ r. ⌜ Lists all (tallyAll all (going false none) (points x (rowsOf n (now (ts .entry)))) (treeOf (now (s .entry)))) r (now (out .entry)) (now (out .exit)) ⌝ }
 {
     let l = lists::opened(all, 0);

@@ -1,5 +1,5 @@
 -- The laws of reading, each group resting on those above it: numbers and records (Signed, Ints, Heads, Cases), a formula and a whole sheet as
--- the code reads them (Reading, Whole), what is written is read and what is read was written (Laws, Sound, Accepts, Trees), the first and
+-- the code reads them (Reading, Whole), the numbers of its refusals (Refusals), what is written is read and what is read was written (Laws, Sound, Accepts, Trees), the first and
 -- the last quantifier and the look (Places, Scan, Looking), and that each promise allows one reply (Unique). Examples are worked sheets.
 pub mod Signed
 pub mod Ints
@@ -7,6 +7,7 @@ pub mod Heads
 pub mod Cases
 pub mod Reading
 pub mod Whole
+pub mod Refusals
 pub mod Laws
 pub mod Sound
 pub mod Accepts

@@ -10,7 +10,7 @@ use lib.ListN.{length, drop, length-append}
 use lib.Seq.{drop-append-seam}
 use mathlib.Core.Bool.{Bool, true, false}
 use Rattle.reading.specs.Formula.{Formula, Formulas, count, fieldBytes, recordBytes, encode, encodes, Fits, AllFit, Free, AllFree, atom, not, list, quant, window, none, more, notL, listL, quantL}
-use Rattle.reading.specs.Quantifiers.{Quantifier, met, seek, seeks, lastIn, nothing, at}
+use Rattle.reading.specs.Quantifiers.{Quantifier, met, seek, seeks, lastIn, QuantifierAt, QuantifierAtAny, nothing, at}
 use Rattle.reading.proofs.Trees.{fits-more}
 
 -- ---- where it stands
@@ -140,3 +140,99 @@ last-free f o b v g e = elim (seek-cases true nothing 0 f) [
   | inl h ↦ let z : _≡_ {A = Quantifier} nothing (at o b v g) = sym (h .0) ∙ e in let y : _≡_ {A = ℕ} 0 1 = cc in absurd (omega arith)
   | inr h ↦ subst (Ended true) e h
 ]
+
+-- ---- a quantifier of the formula
+
+-- what a search found is a quantifier of the formula that begins at p
+abbrev FoundIn : ℕ → Formula → Quantifier → Type 0
+FoundIn p f nothing = ⊥
+FoundIn p f (at o b v g) = (p ≤ o) × QuantifierAt (o - p) f
+
+abbrev FoundInAny : ℕ → Formulas → Quantifier → Type 0
+FoundInAny p fs nothing = ⊥
+FoundInAny p fs (at o b v g) = (p ≤ o) × QuantifierAtAny (o - p) fs
+
+-- one record further out, and one member further on
+found-not : (p : ℕ) (f : Formula) (q : Quantifier) → FoundIn (p + 4) f q → FoundIn p (not f) q
+found-not p f nothing h = h
+found-not p f (at o b v g) h = (omega arith, (omega arith, subst (λ (n : ℕ). QuantifierAt n f) (omega arith) (h .1)))
+
+found-list : (p : ℕ) (b : Bool) (fs : Formulas) (q : Quantifier) → FoundInAny (p + 6) fs q → FoundIn p (list b fs) q
+found-list p c fs nothing h = h
+found-list p c fs (at o b v g) h = (omega arith, (omega arith, subst (λ (n : ℕ). QuantifierAtAny n fs) (omega arith) (h .1)))
+
+found-quant : (p : ℕ) (b : Bool) (v : ℕ) (f : Formula) (q : Quantifier) → FoundIn (p + 6) f q → FoundIn p (quant b v f) q
+found-quant p c u f nothing h = h
+found-quant p c u f (at o b v g) h = (omega arith, inr (omega arith, subst (λ (n : ℕ). QuantifierAt n f) (omega arith) (h .1)))
+
+found-first : (p : ℕ) (f : Formula) (fs : Formulas) (q : Quantifier) → FoundIn p f q → FoundInAny p (more f fs) q
+found-first p f fs nothing h = h
+found-first p f fs (at o b v g) h = (h .0, inl (h .1))
+
+found-later : (p : ℕ) (f : Formula) (fs : Formulas) (q : Quantifier) → FoundInAny (p + length (encode f)) fs q → FoundInAny p (more f fs) q
+found-later p f fs nothing h = h
+found-later p f fs (at o b v g) h = (omega arith, inr (omega arith, subst (λ (n : ℕ). QuantifierAtAny n fs) (omega arith) (h .1)))
+
+met-found : (last : Bool) (cur : Quantifier) (p : ℕ) (b : Bool) (v : ℕ) (f : Formula) → (met last cur (at p b v f) ≡ cur) ⊎ FoundIn p (quant b v f) (met last cur (at p b v f))
+met-found true cur p b v f = inr (omega arith, inl (omega arith))
+met-found false nothing p b v f = inr (omega arith, inl (omega arith))
+met-found false (at o c u g) p b v f = inl refl
+
+module _ (last : Bool) where
+  mutual
+    unfolding seek
+
+    seek-found : (cur : Quantifier) (p : ℕ) (f : Formula) → (seek last cur p f ≡ cur) ⊎ FoundIn p f (seek last cur p f)
+    seek-found cur p (atom c ns) = inl refl
+    seek-found cur p (not f) = elim (seek-found cur (p + 4) f) [ inl e ↦ inl e | inr h ↦ inr (found-not p f (seek last cur (p + 4) f) h) ]
+    seek-found cur p (list b fs) = elim (seeks-found cur (p + 6) fs) [ inl e ↦ inl e | inr h ↦ inr (found-list p b fs (seeks last cur (p + 6) fs) h) ]
+    seek-found cur p (quant b v f) = elim (seek-found (met last cur (at p b v f)) (p + 6) f) [
+      | inl e ↦ elim (met-found last cur p b v f) [ inl k ↦ inl (e ∙ k) | inr h ↦ inr (subst (FoundIn p (quant b v f)) (sym e) h) ]
+      | inr h ↦ inr (found-quant p b v f (seek last (met last cur (at p b v f)) (p + 6) f) h)
+    ]
+    seek-found cur p (window v lo hi) = inl refl
+
+    seeks-found : (cur : Quantifier) (p : ℕ) (fs : Formulas) → (seeks last cur p fs ≡ cur) ⊎ FoundInAny p fs (seeks last cur p fs)
+    seeks-found cur p none = inl refl
+    seeks-found cur p (more f fs) = elim (seeks-found (seek last cur p f) (p + length (encode f)) fs) [
+      | inl e ↦ elim (seek-found cur p f) [ inl k ↦ inl (e ∙ k) | inr h ↦ inr (found-first p f fs (seeks last (seek last cur p f) (p + length (encode f)) fs) (subst (FoundIn p f) (sym e) h)) ]
+      | inr h ↦ inr (found-later p f fs (seeks last (seek last cur p f) (p + length (encode f)) fs) h)
+    ]
+
+  -- the first and the last quantifier are quantifiers of the formula
+  pub found-quantifier : (f : Formula) (o : ℕ) (b : Bool) (v : ℕ) (g : Formula) → seek last nothing 0 f ≡ at o b v g → QuantifierAt o f
+  found-quantifier f o b v g e = elim (seek-found nothing 0 f) [
+    | inl h ↦ let z : _≡_ {A = Quantifier} nothing (at o b v g) = sym h ∙ e in let y : _≡_ {A = ℕ} 0 1 = cc in absurd (omega arith)
+    | inr h ↦ subst (λ (n : ℕ). QuantifierAt n f) (omega arith) (subst (FoundIn 0 f) e h .1)
+  ]
+
+-- a formula without quantifiers has none anywhere
+mutual
+  pub free-nowhere : (p : ℕ) (f : Formula) → Free f → QuantifierAt p f → ⊥
+  free-nowhere p (atom c ns) h q = q
+  free-nowhere p (not f) h q = free-nowhere (p - 4) f h (q .1)
+  free-nowhere p (list b fs) h q = all-free-nowhere (p - 6) fs h (q .1)
+  free-nowhere p (quant b v f) h q = h
+  free-nowhere p (window v lo hi) h q = q
+
+  pub all-free-nowhere : (p : ℕ) (fs : Formulas) → AllFree fs → QuantifierAtAny p fs → ⊥
+  all-free-nowhere p none h q = q
+  all-free-nowhere p (more f fs) h (inl q) = free-nowhere p f (h .0) q
+  all-free-nowhere p (more f fs) h (inr q) = all-free-nowhere (p - length (encode f)) fs (h .1) (q .1)
+
+-- a quantifier stands inside the formula's bytes
+mutual
+  unfolding encode recordBytes fieldBytes
+
+  pub quantifier-inside : (p : ℕ) (f : Formula) → QuantifierAt p f → p + 6 ≤ length (encode f)
+  quantifier-inside p (atom c ns) q = absurd q
+  quantifier-inside p (not f) q = omega (arith, quantifier-inside (p - 4) f (q .1), q .0)
+  quantifier-inside p (list b fs) q = omega (arith, all-inside (p - 6) fs (q .1), q .0)
+  quantifier-inside p (quant b v f) (inl e) = omega arith
+  quantifier-inside p (quant b v f) (inr q) = omega (arith, quantifier-inside (p - 6) f (q .1), q .0)
+  quantifier-inside p (window v lo hi) q = absurd q
+
+  all-inside : (p : ℕ) (fs : Formulas) → QuantifierAtAny p fs → p + 6 ≤ length (encodes fs)
+  all-inside p none q = absurd q
+  all-inside p (more f fs) (inl q) = omega (arith, quantifier-inside p f q, length-append (encode f) (encodes fs))
+  all-inside p (more f fs) (inr q) = omega (arith, all-inside (p - length (encode f)) fs (q .1), q .0, length-append (encode f) (encodes fs))

@@ -1,5 +1,7 @@
 -- The first and the last quantifier of a formula in reading order, and 01's look: the body of the last one as a part of the sheet's bytes.
-use Prim.Native.Nat.{ℕ, _+_}
+use Prim.Native.Nat.{ℕ, _+_, _-_, _≤_}
+use mathlib.Core.Path.{_≡_}
+use mathlib.Core.Logic.{_⊎_}
 use mathlib.Core.Bool.{Bool, true, false}
 use mathlib.Core.List.{List}
 use lib.ListN.{length, take, drop}
@@ -44,6 +46,19 @@ lastIn f = seek true nothing 0 f
 
 abbrev pub firstIn : Formula → Quantifier
 firstIn f = seek false nothing 0 f
+
+-- a quantifier's record stands at offset p of the bytes of a formula
+abbrev mutual
+  pub QuantifierAt : ℕ → Formula → Type 0
+  QuantifierAt p (atom c ns) = ⊥
+  QuantifierAt p (not f) = (4 ≤ p) × QuantifierAt (p - 4) f
+  QuantifierAt p (list b fs) = (6 ≤ p) × QuantifierAtAny (p - 6) fs
+  QuantifierAt p (quant b v f) = (p ≡ 0) ⊎ ((6 ≤ p) × QuantifierAt (p - 6) f)
+  QuantifierAt p (window v lo hi) = ⊥
+
+  pub QuantifierAtAny : ℕ → Formulas → Type 0
+  QuantifierAtAny p none = ⊥
+  QuantifierAtAny p (more f fs) = QuantifierAt p f ⊎ ((length (encode f) ≤ p) × QuantifierAtAny (p - length (encode f)) fs)
 
 -- what the code answers: the offset of the record
 abbrev pub foundOf : Quantifier → Found

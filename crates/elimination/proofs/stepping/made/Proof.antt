@@ -41,7 +41,7 @@ all-copies-requires : tie.Need-all-copies-requires
 all-copies-requires c κs =
     let p = c .before .before .before .before .before .before .before .before .before .before .pre in
     let l = long (c .before .before .before .before .before) in
-    ((p .begins, p .free), (p .low, (record { long = omega (arith, l); few = found (c .before .before .before) .most; small = c .before .before .before .before .before .before .gather .ensures .small }, p .room)))
+    (p, record { long = omega (arith, l); few = found (c .before .before .before) .most; small = c .before .before .before .before .before .before .gather .ensures .small })
 
 same-copies : (k : tie.After-all-copies) → length (k .all-copies .last .1 .1 .1 .1 .1 .0) ≡ length (k .before .before .before .before .before .before .before .before .before .before .before .args .out .now)
 same-copies k = omega arith

@@ -15,16 +15,12 @@ use Rattle.elimination.specs.Gathering.{rowsOf}
 use Rattle.elimination.specs.Copying.{going}
 use Rattle.elimination.specs.Listing.{Lists}
 use Rattle.elimination.specs.Stepping.{tallyAll}
-use Rattle.elimination.specs.Trying.{Body, Holding, Tries}
+use Rattle.elimination.specs.Trying.{Copiable, Holding, Tries}
 use Rattle.elimination.specs.declared.Open.{Open}
 use Rattle.elimination.specs.declared.Copies.{Copies}
 use Rattle.elimination.proofs.PointLaws.{opened-lists, Way, way-start, way-more, way-last, way-big, points-none, points-first, points-some}
 use Rattle.elimination.proofs.trying.all_copies.Statement.{statement}
 use Rattle.elimination.proofs.trying.all_copies.Tie as tie
-
--- what is asked for, as one record
-body : (a : tie.Start) → Body (a .args .s .now) (a .args .x) (length (a .args .out .now))
-body a = record { begins = a .pre .0 .0; free = a .pre .0 .1; low = a .pre .1 .0; room = a .pre .1 .1 .1 }
 
 module _ (k : tie.After-opened) where
   abbrev start : tie.Start
@@ -46,7 +42,7 @@ module _ (k : tie.After-opened) where
   spots = points (start .args .x) (rowsOf (start .args .n) (start .args .ts .now))
 
   lists : Lists (start .args .all) (going false none) first out out
-  lists = subst (λ (l : Open). Lists (start .args .all) (going false none) (record { list = l; over = false; big = false }) out out) (sym (k .opened .ensures)) (opened-lists (start .args .all) out (let h = start .pre .1 .1 .1 in omega arith))
+  lists = subst (λ (l : Open). Lists (start .args .all) (going false none) (record { list = l; over = false; big = false }) out out) (sym (k .opened .ensures)) (opened-lists (start .args .all) out (let h = start .pre .0 .room in omega arith))
 
   holding : Holding first out
   holding = record { all = start .args .all; tally = going false none; before = out; lists = lists; small = refl }
@@ -61,7 +57,7 @@ opened-requires : tie.Need-opened-requires
 opened-requires c κs = search needs
 
 far-requires : tie.Need-far-requires
-far-requires c κs = (body (start (c .before)), holding (c .before))
+far-requires c κs = (start (c .before) .pre .0, holding (c .before))
 
 same-length : tie.Need-same-length
 same-length c = search needs
@@ -109,7 +105,7 @@ far-requires-2 c κs =
     let e = c .before in
     let b = e .before .before .before .before .before .before in
     let w = below-way e in
-    (subst (Body (start b .args .s .now) (start b .args .x)) (sym (w .long)) (body (start b)), w .holding)
+    (subst (Copiable (start b .args .s .now) (start b .args .x)) (sym (w .long)) (start b .pre .0), w .holding)
 
 -- the output after +∞, of the same length
 abbrev high-out : tie.After-far2 → List ℕ
@@ -146,7 +142,7 @@ rows-requires c κs =
     let e = c .before in
     let b = e .before .before .before .before .before .before .before .before .before .before .before in
     let w = above-way e in
-    (subst (Body (start b .args .s .now) (start b .args .x)) (sym (w .long)) (body (start b)), (start b .pre .1 .1 .0, w .holding))
+    (subst (Copiable (start b .args .s .now) (start b .args .x)) (sym (w .long)) (start b .pre .0), (start b .pre .1, w .holding))
 
 same-length-4 : tie.Need-same-length-4
 same-length-4 c =

@@ -9,7 +9,7 @@ use Rattle.exact.specs.Terms.{midpoint}
 use Rattle.exact.specs.Atoms.{here}
 use Rattle.elimination.specs.Points.{midpoints}
 use Rattle.elimination.specs.Gathering.{rowAt, rowsOf}
-use Rattle.elimination.specs.Trying.{Body}
+use Rattle.elimination.specs.Trying.{Copiable}
 use Rattle.elimination.proofs.PointLaws.{Way, way-start, way-more, way-end, way-big, mid-turn, mid-end}
 use Rattle.elimination.proofs.trying.row_of.Statement.{statement}
 use Rattle.elimination.proofs.trying.row_of.Tie as tie
@@ -31,7 +31,7 @@ at-midpoint-requires c κs =
     let i = c .before in
     let a = i .before .before .before .before in
     let w = i .before .loop .inv in
-    (subst (Body (a .args .s .now) (a .args .x)) (sym (w .long)) (a .pre .0), (a .pre .1 .0, ((a .pre .1 .1 .0, i .loop-test .taken), w .holding)))
+    (subst (Copiable (a .args .s .now) (a .args .x)) (sym (w .long)) (a .pre .0), (a .pre .1 .0, ((a .pre .1 .1 .0, i .loop-test .taken), w .holding)))
 
 -- a call leaves the length
 same : (k : tie.After-at-midpoint Inv-loop μ-loop) → length (k .at-midpoint .last .1 .1 .1 .1 .1 .1 .1 .0) ≡ length (k .before .before .before .loop .out)

@@ -6,7 +6,7 @@ use lib.ListN.{length, drop}
 use Rattle.reading.specs.Reading.{treeOf}
 use Rattle.elimination.specs.Points.{midpoints, allMidpoints}
 use Rattle.elimination.specs.Gathering.{rowAt, rowsOf}
-use Rattle.elimination.specs.Trying.{Body}
+use Rattle.elimination.specs.Trying.{Copiable}
 use Rattle.elimination.proofs.PointLaws.{Way, way-start, way-more, way-end, way-big, all-turn, all-end}
 use Rattle.elimination.proofs.trying.rows.Statement.{statement}
 use Rattle.elimination.proofs.trying.rows.Tie as tie
@@ -27,7 +27,7 @@ row-of-requires c κs =
     let i = c .before in
     let a = i .before .before .before .before in
     let w = i .before .loop .inv in
-    (subst (Body (a .args .s .now) (a .args .x)) (sym (w .long)) (a .pre .0), (a .pre .1 .0, (i .loop-test .taken, w .holding)))
+    (subst (Copiable (a .args .s .now) (a .args .x)) (sym (w .long)) (a .pre .0), (a .pre .1 .0, (i .loop-test .taken, w .holding)))
 
 -- a call leaves the length
 same : (k : tie.After-row-of Inv-loop μ-loop) → length (k .row-of .last .1 .1 .1 .1 .1 .1 .0) ≡ length (k .before .before .before .loop .out)

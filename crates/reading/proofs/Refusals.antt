@@ -1,0 +1,98 @@
+-- 01, 'Answers and their order': the numbers that reading refuses with. A record is refused with 3 to 7, a formula with 3 to 8, a sheet with 2 to 9;
+-- so a refusal's number is never 0. Assumes nothing.
+use mathlib.Core.Bool.{Bool, true, false}
+use mathlib.Core.List.{List}
+use Prim.Native.Nat.{ℕ, zero, suc, _≤_}
+use lib.Dec.{ltb, leb, eqb}
+use lib.ListN.{length, drop}
+use native.Mathlib.Omega.{arith}
+use Rattle.reading.specs.Limits.{lastVariable}
+use Rattle.reading.specs.Bytes.{le2}
+use Rattle.reading.specs.Formula.{Formula, Formulas, Label, follow, size}
+use Rattle.reading.specs.Records.{Record, bad, opened, pick, Kind, atomK, notK, listK, quantK, windowK, unknown, kindOf, sized, allM, byKind, head}
+use Rattle.reading.specs.Reading.{Read, good, fault, joined, then, formulasIn, under, tooDeep, body, formulaIn}
+use Rattle.reading.specs.Answers.{wholeOf, reading}
+use Rattle.reading.specs.declared.Reply.{Reply}
+use Rattle.reading.specs.declared.Reply.the-variants.{Done, Refused}
+
+-- ---- records
+
+abbrev RecordNumbered : Record → Type 0
+RecordNumbered (bad n) = (3 ≤ n) × (n ≤ 7)
+RecordNumbered (opened l) = Unit {0}
+
+pick-record : (b : Bool) (x y : Record) → RecordNumbered x → RecordNumbered y → RecordNumbered (pick b x y)
+pick-record true x y h k = h
+pick-record false x y h k = k
+
+sized-numbered : (n l : ℕ) (s : List ℕ) (r : Record) → RecordNumbered r → RecordNumbered (sized n l s r)
+unfolding sized
+sized-numbered n l s r h = pick-record (eqb l n) (pick (ltb (length s) n) (bad 3) r) (bad 5) (pick-record (ltb (length s) n) (bad 3) r (omega arith) h) (omega arith)
+
+kind-numbered : (k : Kind) (l : ℕ) (s : List ℕ) → RecordNumbered (byKind k l s)
+unfolding byKind
+kind-numbered (atomK c) l s = sized-numbered 40 l s _ (pick-record (allM 9 4 s) _ (bad 7) tt (omega arith))
+kind-numbered notK l s = sized-numbered 4 l s _ tt
+kind-numbered (listK b) l s = sized-numbered 6 l s _ tt
+kind-numbered (quantK b) l s = sized-numbered 6 l s _ (pick-record (leb (le2 s 4) lastVariable) _ (bad 6) tt (omega arith))
+kind-numbered windowK l s = sized-numbered 14 l s _ (pick-record (leb (le2 s 4) lastVariable) _ (bad 6) (pick-record (allM 2 6 s) _ (bad 7) tt (omega arith)) (omega arith))
+kind-numbered unknown l s = omega arith
+
+head-numbered : (s : List ℕ) → RecordNumbered (head s)
+unfolding head
+head-numbered s = pick-record (ltb (length s) 4) (bad 3) (byKind (kindOf (le2 s 2)) (le2 s 0) s) (omega arith) (kind-numbered (kindOf (le2 s 2)) (le2 s 0) s)
+
+-- ---- formulas
+
+abbrev ReadNumbered : {A : Type 0} → Read A → Type 0
+ReadNumbered (good a k) = Unit {0}
+ReadNumbered (fault n p) = (3 ≤ n) × (n ≤ 8)
+
+joined-numbered : (f : Formula) (k : ℕ) (r : Read Formulas) → ReadNumbered r → ReadNumbered (joined f k r)
+joined-numbered f k (good fs j) h = tt
+joined-numbered f k (fault n p) h = h
+
+then-numbered : (r : Read Formula) (rest : ℕ → Read Formulas) → ReadNumbered r → ((k : ℕ) → ReadNumbered (rest k)) → ReadNumbered (then r rest)
+then-numbered (good f k) rest h i = joined-numbered f k (rest k) (i k)
+then-numbered (fault n p) rest h i = h
+
+formulas-numbered : (rd : List ℕ → Read Formula) → ((s : List ℕ) → ReadNumbered (rd s)) → (n : ℕ) (s : List ℕ) → ReadNumbered (formulasIn rd n s)
+unfolding formulasIn
+formulas-numbered rd h zero s = tt
+formulas-numbered rd h (suc n) s = then-numbered (rd s) (λ k. formulasIn rd n (drop k s)) (h s) (λ k. formulas-numbered rd h n (drop k s))
+
+under-numbered : (l : Label) (r : Read Formulas) → ReadNumbered r → ReadNumbered (under l r)
+under-numbered l (good fs j) h = tt
+under-numbered l (fault n p) h = h
+
+deep-numbered : (r : Record) → RecordNumbered r → ReadNumbered (tooDeep r)
+deep-numbered (bad n) h = omega arith
+deep-numbered (opened l) h = omega arith
+
+body-numbered : (rd : List ℕ → Read Formula) → ((s : List ℕ) → ReadNumbered (rd s)) → (s : List ℕ) (r : Record) → RecordNumbered r → ReadNumbered (body rd s r)
+body-numbered rd i s (bad n) h = omega arith
+body-numbered rd i s (opened l) h = under-numbered l (formulasIn rd (follow l) (drop (size l) s)) (formulas-numbered rd i (follow l) (drop (size l) s))
+
+formula-numbered : (d : ℕ) (s : List ℕ) → ReadNumbered (formulaIn d s)
+unfolding formulaIn
+formula-numbered zero s = deep-numbered (head s) (head-numbered s)
+formula-numbered (suc d) s = body-numbered (formulaIn d) (λ t. formula-numbered d t) s (head s) (head-numbered s)
+
+-- ---- sheets
+
+abbrev pub ReplyNumbered : Reply → Type 0
+ReplyNumbered (Done k) = Unit {0}
+ReplyNumbered (Refused n p) = (2 ≤ n) × (n ≤ 9)
+
+pick-reply : (b : Bool) (x y : Reply) → ReplyNumbered x → ReplyNumbered y → ReplyNumbered (pick b x y)
+pick-reply true x y h k = h
+pick-reply false x y h k = k
+
+whole-numbered : (n : ℕ) (r : Read Formula) → ReadNumbered r → ReplyNumbered (wholeOf n r)
+whole-numbered n (good f k) h = pick-reply (ltb k n) (Refused 9 k) (Done k) (omega arith) tt
+whole-numbered n (fault e p) h = omega arith
+
+-- a sheet is refused with 2 to 9
+pub reading-numbered : (limit d : ℕ) (s : List ℕ) → ReplyNumbered (reading limit d s)
+unfolding reading
+reading-numbered limit d s = pick-reply (ltb limit (length s)) (Refused 2 0) (wholeOf (length s) (formulaIn d s)) (omega arith) (whole-numbered (length s) (formulaIn d s) (formula-numbered d s))
