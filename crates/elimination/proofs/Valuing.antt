@@ -8,7 +8,7 @@ use Prim.Native.Nat.{ℕ, zero, suc, _<_, _≤_}
 use native.Mathlib.Omega.{arith}
 use lib.Dec.{T, eqb, leb·suc-zero, lit≤}
 use lib.IntN.{ℤ, pos, negsuc, _-ℤ_, _*ℤ_}
-use lib.Signed.{_≤ℤ_, leZ}
+use lib.Signed.{_<ℤ_, _≤ℤ_, leZ}
 use borrow.Author.Tests.{eqb-true, eqb-false}
 use Rattle.reading.specs.Formula.{Comparison, less, atmost, equal, Formula, Formulas, atom, not, list, quant, window, none, more}
 use Rattle.reading.specs.Records.{pick}
@@ -18,7 +18,7 @@ use Rattle.elimination.specs.Testing.{join, sumTo, trueAt, allTrueAt}
 use Rattle.elimination.specs.Pushing.{flip}
 use Rattle.elimination.specs.Meaning.{Fraction, Values, put, sumOf, Compares, Means, MeansAll}
 use Rattle.elimination.proofs.Sealed.{_⊕_, _⊗_, ⊖, _⊝_, O, ring, ⊗-comm, ⊕-comm, ⊕-invr, ⊕-idl}
-use Rattle.elimination.proofs.Signs.{Sign, nil, plus, sgn, sgn-O, turn, sgn-⊖, sgn-up, sgn-nil, up-⊗, test, holds-test}
+use Rattle.elimination.proofs.Signs.{Sign, nil, plus, sgn, sgn-O, turn, sgn-⊖, sgn-up, sgn-nil, up-⊗, above-sgn, test, holds-test}
 use Rattle.elimination.proofs.Sums.{total, total-sum, total-last, dot, upd}
 use Rattle.elimination.proofs.Fractions.{up, fraction}
 use Rattle.elimination.proofs.Truth.{Named, AllNamed, lower, upper, Holds, AllHold, truth, truths, iff-same, iff-trans, not-iff, both-iff, over-iff, T-same}
@@ -80,12 +80,16 @@ sum-step N D z n d q p k t h i = first ∙ ap₂ (λ (x y : ℤ). x ⊗ d ⊕ (z
 sum-none : (k : ℤ) → k ≡ (k ⊕ O) ⊗ pos 1
 sum-none k = simp ring
 
-module _ (ns : List ℤ) (ρ : Values) (w : ℕ → ℤ) (r : Represents ρ w) where
-  sum-up : (n : ℕ) → sgn (sumOf n ns ρ .bottom) ≡ plus
-  unfolding sumOf sgn _⊗_
-  sum-up zero = refl
-  sum-up (suc n) = up-⊗ (sumOf n ns ρ .bottom) (ρ n .bottom) (sum-up n) (up (ρ n))
+sum-up : (ns : List ℤ) (ρ : Values) (n : ℕ) → sgn (sumOf n ns ρ .bottom) ≡ plus
+unfolding sumOf sgn _⊗_
+sum-up ns ρ zero = refl
+sum-up ns ρ (suc n) = up-⊗ (sumOf n ns ρ .bottom) (ρ n .bottom) (sum-up ns ρ n) (up (ρ n))
 
+-- the bottom of a sum is above 0, so the sum compares with 0 as its top does
+pub sum-above : (ns : List ℤ) (ρ : Values) (n : ℕ) → pos 0 <ℤ sumOf n ns ρ .bottom
+sum-above ns ρ n = above-sgn (sumOf n ns ρ .bottom) (sum-up ns ρ n)
+
+module _ (ns : List ℤ) (ρ : Values) (w : ℕ → ℤ) (r : Represents ρ w) where
   sum-is : (n : ℕ) → n ≤ 8 → sumOf n ns ρ .top ⊗ w 8 ≡ (at ns 8 ⊗ w 8 ⊕ total n (λ i. at ns i ⊗ w i)) ⊗ sumOf n ns ρ .bottom
   unfolding sumOf total _⊕_ _⊗_
   sum-is zero h = sum-none (at ns 8 ⊗ w 8)
@@ -97,7 +101,7 @@ module _ (ns : List ℤ) (ρ : Values) (w : ℕ → ℤ) (r : Represents ρ w) w
   sum-sgn : sgn (sumOf 8 ns ρ .top) ≡ sgn (dot (at ns) w)
   unfolding dot
   sum-sgn =
-      sym (sgn-up (w 8) _ (r .base)) ∙ ap sgn (⊗-comm _ _ ∙ sum-is 8 (lit≤ tt) ∙ ⊗-comm _ _) ∙ sgn-up (sumOf 8 ns ρ .bottom) _ (sum-up 8)
+      sym (sgn-up (w 8) _ (r .base)) ∙ ap sgn (⊗-comm _ _ ∙ sum-is 8 (lit≤ tt) ∙ ⊗-comm _ _) ∙ sgn-up (sumOf 8 ns ρ .bottom) _ (sum-up ns ρ 8)
       ∙ ap sgn (⊕-comm _ _ ∙ sym (total-last 8 (λ i. at ns i ⊗ w i)))
 
 low-cross : (lo q p d n : ℤ) → n ⊗ q ≡ p ⊗ d → d ⊗ (lo ⊗ q ⊝ p) ≡ q ⊗ (lo ⊗ d ⊝ n)
