@@ -1,11 +1,6 @@
 // The calls that C makes: each a line over the proved call below, with the same promise and no `requires`.
-ghost use mathlib.Core.Path.{_≡_};
 ghost use mathlib.Core.List.{[], _∷_};
-ghost use Rattle.reading.specs.Limits.{resultBytes, resultLevels};
-ghost use Rattle.reading.specs.Answers.{reading, answerOf};
-ghost use Rattle.reading.specs.Quantifiers.{lookPart};
-ghost use Rattle.elimination.specs.Eliminate.{eliminate};
-ghost use Rattle.elimination.specs.Testing.{tested};
+ghost use Rattle.desk.specs.Promises.{Eliminates, TestsAt, ReadsAs, LooksAt};
 
 #[repr(C)]
 pub struct Reply {
@@ -37,9 +32,7 @@ pub struct Part {
 // The sheet's condition with every quantifier gone, at the start of the result buffer.
 #[no_mangle]
 pub extern "C" fn vb_eliminate(sheet: &[u8], result: &mut [u8], work: &mut [u8]) -> Reply
-    ensures { λ r. ⌜ (r .number ≡ eliminate (now (sheet .entry)) (now (result .entry)) (now (work .entry)) .number) × (r .verdict ≡ eliminate (now (sheet .entry)) (now (result .entry)) (now (work .entry)) .verdict) ⌝ }
-    ensures { λ r. ⌜ (r .place ≡ eliminate (now (sheet .entry)) (now (result .entry)) (now (work .entry)) .place) × (r .length ≡ eliminate (now (sheet .entry)) (now (result .entry)) (now (work .entry)) .length) ⌝ }
-    ensures { λ r. ⌜ (now (result .exit) ≡ eliminate (now (sheet .entry)) (now (result .entry)) (now (work .entry)) .result) × (now (work .exit) ≡ eliminate (now (sheet .entry)) (now (result .entry)) (now (work .entry)) .work) ⌝ }
+    ensures { λ r. ⌜ Eliminates (now (sheet .entry)) (now (result .entry)) (now (work .entry)) r (now (result .exit)) (now (work .exit)) ⌝ }
 {
     let r = elimination::eliminate(sheet, result, work);
     Reply {
@@ -64,8 +57,7 @@ pub extern "C" fn vb_test(
     p7: i64,
     q: i64,
 ) -> Tested
-    ensures { λ r. ⌜ (r .number ≡ tested (now (sheet .entry)) (p0 ∷ p1 ∷ p2 ∷ p3 ∷ p4 ∷ p5 ∷ p6 ∷ p7 ∷ q ∷ []) .number) × (r .verdict ≡ tested (now (sheet .entry)) (p0 ∷ p1 ∷ p2 ∷ p3 ∷ p4 ∷ p5 ∷ p6 ∷ p7 ∷ q ∷ []) .verdict) ⌝ }
-    ensures { λ r. ⌜ r .place ≡ tested (now (sheet .entry)) (p0 ∷ p1 ∷ p2 ∷ p3 ∷ p4 ∷ p5 ∷ p6 ∷ p7 ∷ q ∷ []) .place ⌝ }
+    ensures { λ r. ⌜ TestsAt (now (sheet .entry)) (p0 ∷ p1 ∷ p2 ∷ p3 ∷ p4 ∷ p5 ∷ p6 ∷ p7 ∷ q ∷ []) r ⌝ }
 {
     let r = elimination::test(sheet, [p0, p1, p2, p3, p4, p5, p6, p7, q]);
     Tested {
@@ -78,7 +70,7 @@ pub extern "C" fn vb_test(
 // Number and place of the answer under the limits of a result.
 #[no_mangle]
 pub extern "C" fn vb_read(sheet: &[u8]) -> Place
-    ensures { λ r. ⌜ (r .number ≡ answerOf (reading resultBytes resultLevels (now (sheet .entry))) .number) × (r .place ≡ answerOf (reading resultBytes resultLevels (now (sheet .entry))) .place) ⌝ }
+    ensures { λ r. ⌜ ReadsAs (now (sheet .entry)) r ⌝ }
 {
     let r = reading::read(sheet, reading::Limit::Result);
     Place {
@@ -90,7 +82,7 @@ pub extern "C" fn vb_read(sheet: &[u8]) -> Place
 // Where the body of the last quantifier stands in the sheet.
 #[no_mangle]
 pub extern "C" fn vb_look(sheet: &[u8]) -> Part
-    ensures { λ r. ⌜ (r .at ≡ lookPart (now (sheet .entry)) .at) × (r .length ≡ lookPart (now (sheet .entry)) .length) ⌝ }
+    ensures { λ r. ⌜ LooksAt (now (sheet .entry)) r ⌝ }
 {
     let r = reading::look_part(sheet);
     Part {

@@ -1,16 +1,16 @@
--- A closed sheet that is not refused is decided: its result is the true or the false record, so its verdict is never 2; it is 1 exactly when the
--- sheet is true, and 0 exactly when it is false.
+-- The result of a closed formula is the true or the false record, so its verdict is never 2; it is 1 exactly when the formula is true, and 0 exactly
+-- when it is false. Assumes nothing.
 use Prim.Native.Nat.{ℕ, zero, suc, _≤_, _<_}
 use mathlib.Core.Path.{_≡_, refl, sym, _∙_, ap, ap₂, subst}
 use mathlib.Core.Logic.{_⊎_, inl, inr, _↔_}
 use mathlib.Core.Bool.{Bool, true, false, _&&_}
 use mathlib.Core.List.{List, [], _∷_}
 use native.Mathlib.Omega.{arith}
+use lib.Dec.{T}
 use lib.IntN.{ℤ}
 use lib.ListN.{take}
-use Rattle.reading.specs.Limits.{variables, lastVariable, sheetLevels}
-use Rattle.reading.specs.Bytes.{Bytes}
-use Rattle.reading.specs.Formula.{Comparison, Formula, Formulas, atom, not, list, quant, window, none, more, encode, Fits, Free}
+use Rattle.reading.specs.Limits.{variables, lastVariable}
+use Rattle.reading.specs.Formula.{Comparison, Formula, Formulas, atom, not, list, quant, window, none, more, Free}
 use Rattle.reading.specs.Records.{pick}
 use Rattle.exact.specs.Numbers.{at, isZero}
 use Rattle.exact.specs.Atoms.{Came, holds, zeros, settled, nowhere, atomAt}
@@ -19,13 +19,12 @@ use Rattle.elimination.specs.Pushing.{flip, push}
 use Rattle.elimination.specs.Lists.{Known, known, sureRecord, decidedBy, keep, stay, closed, listed}
 use Rattle.elimination.specs.Copies.{atomBy, copy, copyAll}
 use Rattle.elimination.specs.Steps.{quantifiers, steps}
-use Rattle.elimination.specs.Eliminate.{Result, verdictBy, finished, resultOf, eliminate}
+use Rattle.elimination.specs.Eliminate.{verdictBy, finished, resultOf}
 use Rattle.elimination.specs.Meaning.{Values, Means}
 use Rattle.elimination.specs.Variables.{FreeIn, Closed}
-use Rattle.elimination.proofs.Truth.{Rows, AllRows, fits-named}
+use Rattle.elimination.proofs.Truth.{Rows, AllRows, Named, iff-sym, iff-trans}
 use Rattle.elimination.proofs.AllSteps.{steps-free}
-use Rattle.elimination.proofs.Answering.{eliminate-delivers}
-use Rattle.elimination.proofs.Demand3.{result-means}
+use Rattle.elimination.proofs.Demand3.{result-means, verdict-says}
 use Rattle.elimination.proofs.Variables.{Without, Or, Absent, absent-or-free, push-rows, steps-absent}
 
 -- a formula is the true or the false record
@@ -103,31 +102,14 @@ sure-verdict : (b : Bool) → verdictBy (known (sureRecord b)) ≡ pick b 1 0
 sure-verdict true = refl
 sure-verdict false = refl
 
--- of the closed formula f that a sheet holds, where the answer is 0
-module _ (f : Formula) (sheet out work : List ℕ) (ok : Bytes sheet) (w : Fits sheetLevels f) (e : sheet ≡ encode f) (z : eliminate sheet out work .number ≡ 0) (shut : Closed f) where
-  abbrev verdict : ℕ
-  verdict = eliminate sheet out work .verdict
+-- the record that a closed formula comes to, as a verdict: 1 exactly when the formula is true, 0 exactly when it is false
+pub closed-says : (f : Formula) → Named f → Closed f → (ρ : Values) → ((verdictBy (known (resultOf f)) ≡ 1) ↔ Means f ρ) × ((verdictBy (known (resultOf f)) ≡ 0) ↔ (¬ Means f ρ))
+closed-says f n shut ρ = go (closed-sure f shut .0) (closed-sure f shut .1)
+  where
+    sure-means : (b : Bool) → Means (sureRecord b) ρ ↔ T b
+    sure-means true = (λ _. tt, λ _. tt)
+    sure-means false = (λ m. m, λ m. m)
 
-  verdict-is : (b : Bool) → resultOf f ≡ sureRecord b → verdict ≡ pick b 1 0
-  verdict-is b i = ap (λ (r : Result). r .verdict) (eliminate-delivers f sheet out work ok w e z .answer) ∙ ap (λ (g : Formula). verdictBy (known g)) i ∙ sure-verdict b
-
-  -- the verdict is 1 or 0, never 2
-  pub closed-decided : (b : Bool) × (verdict ≡ pick b 1 0)
-  closed-decided = (closed-sure f shut .0, verdict-is _ (closed-sure f shut .1))
-
-  -- 1 exactly when the sheet is true, 0 exactly when it is false
-  pub closed-verdict : (ρ : Values) → ((verdict ≡ 1) ↔ Means f ρ) × ((verdict ≡ 0) ↔ (¬ Means f ρ))
-  closed-verdict ρ = go (closed-sure f shut .0) (closed-sure f shut .1)
-    where
-      same : Means (resultOf f) ρ ↔ Means f ρ
-      same = result-means f (fits-named sheetLevels f w) ρ
-
-      go : (b : Bool) → resultOf f ≡ sureRecord b → ((verdict ≡ 1) ↔ Means f ρ) × ((verdict ≡ 0) ↔ (¬ Means f ρ))
-      go true i =
-          let m : Means f ρ = same .0 (subst (λ (g : Formula). Means g ρ) (sym i) tt) in
-          let v : verdict ≡ 1 = verdict-is true i in
-          ((λ _. m, λ _. v), (λ z. absurd (omega arith), λ n. absurd (n m)))
-      go false i =
-          let n : (¬ Means f ρ) = (λ m. subst (λ (g : Formula). Means g ρ) i (same .1 m)) in
-          let v : verdict ≡ 0 = verdict-is false i in
-          ((λ z. absurd (omega arith), λ m. absurd (n m)), (λ _. n, λ _. v))
+    go : (b : Bool) → resultOf f ≡ sureRecord b → ((verdictBy (known (resultOf f)) ≡ 1) ↔ Means f ρ) × ((verdictBy (known (resultOf f)) ≡ 0) ↔ (¬ Means f ρ))
+    go b i = verdict-says (Means f ρ) b (verdictBy (known (resultOf f))) (ap (λ (g : Formula). verdictBy (known g)) i ∙ sure-verdict b)
+        (iff-trans (iff-sym (result-means f n ρ)) (subst (λ (g : Formula). Means g ρ ↔ T b) (sym i) (sure-means b)))

@@ -1,33 +1,28 @@
--- Demand 3 of the promise: what is delivered means what the sheet means. A formula's meaning is `Means` of the definitions: at any fractions for its
--- variables, SOME and EVERY ranging over all fractions. Each step keeps it, the finishing pass keeps it, so the whole construction does; the answer
--- 0 delivers the bytes of that construction and of nothing else. The test at fractions says what the sheet means there, equal fractions give the
--- same truth, and the truth of every sheet is decided. `Named f` says that quantifiers and WINDOWs name variables 0 to 7, as each accepted sheet
--- does. Assumes nothing.
-use mathlib.Core.Path.{_≡_, refl, sym, _∙_, ap}
+-- What the construction of demand 2 means: a formula's meaning is `Means` of the definitions, at any fractions for its variables, SOME and EVERY ranging
+-- over all fractions. Each step keeps it, the finishing pass keeps it, so the whole construction does. The test at fractions says what the sheet means
+-- there, equal fractions give the same truth, and the truth of every sheet is decided. `Named f` says that quantifiers and WINDOWs name variables 0
+-- to 7, as each accepted sheet does. Assumes nothing.
+use mathlib.Core.Path.{_≡_, refl, sym}
 use mathlib.Core.Logic.{_↔_}
 use mathlib.Core.Bool.{Bool, true, false}
 use mathlib.Core.List.{List}
 use Prim.Native.Nat.{ℕ}
 use native.Mathlib.Omega.{arith}
 use lib.Dec.{T}
-use lib.ListN.{length, take}
 use lib.IntN.{ℤ, pos}
 use lib.Signed.{_<ℤ_}
-use Rattle.reading.specs.Limits.{sheetLevels, resultLevels}
-use Rattle.reading.specs.Bytes.{Bytes}
-use Rattle.reading.specs.Formula.{Formula, encode, Fits, Free}
+use Rattle.reading.specs.Formula.{Formula, Free}
 use Rattle.reading.specs.Records.{pick}
 use Rattle.exact.specs.Numbers.{at}
 use Rattle.elimination.specs.Steps.{quantifiers, step, ran, eliminated, steps}
-use Rattle.elimination.specs.Eliminate.{Result, finished, resultOf, eliminate}
-use Rattle.elimination.specs.Testing.{trueAt, tested}
-use Rattle.elimination.specs.Meaning.{Values, Means}
+use Rattle.elimination.specs.Eliminate.{finished, resultOf}
+use Rattle.elimination.specs.Testing.{trueAt}
+use Rattle.elimination.specs.Meaning.{Values, fractions, Equal, Means}
 use Rattle.elimination.proofs.Signs.{sgn-above}
-use Rattle.elimination.proofs.Truth.{Named, fits-named, flat-free, flat-named, truth, decides, iff-sym, iff-trans, T-same}
+use Rattle.elimination.proofs.Truth.{Named, flat-free, flat-named, truth, decides, iff-sym, iff-trans, T-same}
 use Rattle.elimination.proofs.AllSteps.{eliminated-ran}
 use Rattle.elimination.proofs.Keeping.{Kept, step-kept, step-named, steps-kept, steps-named, finished-flat, finished-kept, result-flat, result-kept}
-use Rattle.elimination.proofs.Valuing.{Represents, same-meaning, common, common-represents, Equal, equal-represents, trueAt-truth}
-use Rattle.elimination.proofs.Answering.{eliminate-delivers, delivered-bytes, test-done}
+use Rattle.elimination.proofs.Valuing.{Represents, same-meaning, common, common-represents, equal-represents, trueAt-truth}
 
 -- what is kept at vectors is kept at fractions
 kept-means : (g f : Formula) → Named g → Named f → Kept g f → (ρ : Values) → Means g ρ ↔ Means f ρ
@@ -61,28 +56,6 @@ result-means f n = kept-means (resultOf f) f (flat-named (resultOf f) (result-fl
 pub run-is : (f g : Formula) → eliminated f ≡ ran g → g ≡ steps (quantifiers f) f
 run-is = eliminated-ran
 
--- ---- from bytes, of the formula f that the sheet holds
-
--- bytes of a condition within the limits of a result, without quantifiers, that means what f means
-pub record SameMeaning (f : Formula) (condition : List ℕ) : Type 0 where
-  pub after : Formula
-  pub bytes : condition ≡ encode after
-  pub fits : Fits resultLevels after
-  pub free : Free after
-  pub means : (ρ : Values) → Means after ρ ↔ Means f ρ
-
-pub demand-3 : (f : Formula) (sheet out work : List ℕ) → Bytes sheet → Fits sheetLevels f → sheet ≡ encode f → eliminate sheet out work .number ≡ 0
-    → SameMeaning f (take (eliminate sheet out work .length) (eliminate sheet out work .result))
-demand-3 f sheet out work ok w e z =
-    let d = eliminate-delivers f sheet out work ok w e z in
-    record {
-      after = resultOf f;
-      bytes = ap (λ (r : Result). take (r .length) (r .result)) (d .answer) ∙ delivered-bytes (resultOf f) out work;
-      fits = d .fits;
-      free = result-free f;
-      means = result-means f (fits-named sheetLevels f w);
-    }
-
 -- ---- equal fractions, and decided truth
 
 pub equal-fractions : (f : Formula) → Named f → (ρ σ : Values) → Equal ρ σ → Means f ρ ↔ Means f σ
@@ -103,29 +76,13 @@ decided-truth f n ρ = go (truth (resultOf f) (common ρ)) refl
 
 -- ---- the test
 
--- eight numbers over one denominator, as values
-abbrev pub over : (w : List ℤ) → pos 0 <ℤ at w 8 → Values
-over w h v = record { top = at w v; bottom = at w 8; above = h }
+fractions-represents : (w : List ℤ) (h : pos 0 <ℤ at w 8) → Represents (fractions w h) (at w)
+fractions-represents w h = record { base = sgn-above (at w 8) h; same = λ v k. refl }
 
-over-represents : (w : List ℤ) (h : pos 0 <ℤ at w 8) → Represents (over w h) (at w)
-over-represents w h = record { base = sgn-above (at w 8) h; same = λ v k. refl }
+pub test-means : (f : Formula) → Named f → Free f → (w : List ℤ) (h : pos 0 <ℤ at w 8) → Means f (fractions w h) ↔ T (trueAt w f)
+test-means f n q w h = iff-trans (same-meaning f (fractions w h) (at w) n (fractions-represents w h)) (iff-trans (decides f (at w) q) (T-same (sym (trueAt-truth w f))))
 
-pub test-means : (f : Formula) → Named f → Free f → (w : List ℤ) (h : pos 0 <ℤ at w 8) → Means f (over w h) ↔ T (trueAt w f)
-test-means f n q w h = iff-trans (same-meaning f (over w h) (at w) n (over-represents w h)) (iff-trans (decides f (at w) q) (T-same (sym (trueAt-truth w f))))
-
--- f has no quantifier, and the verdict is 1 exactly where f holds, 0 exactly where it does not
-pub record TestMeaning (f : Formula) (w : List ℤ) (verdict : ℕ) : Type 0 where
-  pub free : Free f
-  pub above : pos 0 <ℤ at w 8
-  pub true-is : (verdict ≡ 1) ↔ Means f (over w above)
-  pub false-is : (verdict ≡ 0) ↔ (¬ Means f (over w above))
-
-verdict-is : (P : Type 0) (b : Bool) (v : ℕ) → v ≡ pick b 1 0 → P ↔ T b → ((v ≡ 1) ↔ P) × ((v ≡ 0) ↔ (¬ P))
-verdict-is P true v e h = ((λ _. h .1 tt, λ _. e), (λ z. absurd (omega arith), λ n. absurd (n (h .1 tt))))
-verdict-is P false v e h = ((λ z. absurd (omega arith), λ p. absurd (h .0 p)), (λ _ p. h .0 p, λ _. e))
-
-pub tested-means : (f : Formula) (sheet : List ℕ) (w : List ℤ) → Bytes sheet → Fits resultLevels f → sheet ≡ encode f → tested sheet w .number ≡ 0 → TestMeaning f w (tested sheet w .verdict)
-tested-means f sheet w ok x e z =
-    let t = test-done f sheet w ok x e z in
-    let v = verdict-is (Means f (over w (t .above))) (trueAt w f) (tested sheet w .verdict) (t .truth) (test-means f (fits-named resultLevels f x) (t .free) w (t .above)) in
-    record { free = t .free; above = t .above; true-is = v .0; false-is = v .1 }
+-- a verdict that is 1 or 0 by a test that says whether P holds
+pub verdict-says : (P : Type 0) (b : Bool) (v : ℕ) → v ≡ pick b 1 0 → P ↔ T b → ((v ≡ 1) ↔ P) × ((v ≡ 0) ↔ (¬ P))
+verdict-says P true v e h = ((λ _. h .1 tt, λ _. e), (λ z. absurd (omega arith), λ n. absurd (n (h .1 tt))))
+verdict-says P false v e h = ((λ z. absurd (omega arith), λ p. absurd (h .0 p)), (λ _ p. h .0 p, λ _. e))

@@ -16,7 +16,7 @@ use Rattle.exact.specs.Numbers.{at}
 use Rattle.exact.proofs.Sign.{NonNeg, nn-le, le-nn}
 use Rattle.elimination.specs.Testing.{join, sumTo, trueAt, allTrueAt}
 use Rattle.elimination.specs.Pushing.{flip}
-use Rattle.elimination.specs.Meaning.{Fraction, Values, put, sumOf, Compares, Means, MeansAll}
+use Rattle.elimination.specs.Meaning.{Fraction, Values, put, sumOf, Compares, Means, MeansAll, Equal}
 use Rattle.elimination.proofs.Sealed.{_⊕_, _⊗_, ⊖, _⊝_, O, ring, ⊗-comm, ⊕-comm, ⊕-invr, ⊕-idl}
 use Rattle.elimination.proofs.Signs.{Sign, nil, plus, sgn, sgn-O, turn, sgn-⊖, sgn-up, sgn-nil, up-⊗, above-sgn, test, holds-test}
 use Rattle.elimination.proofs.Sums.{total, total-sum, total-last, dot, upd}
@@ -203,10 +203,6 @@ pub common-represents : (ρ : Values) → Represents ρ (common ρ)
 common-represents ρ = record { base = common-up 8 ρ (lit≤ tt); same = common-same 8 ρ (lit≤ tt) }
 
 -- ---- equal fractions
-
--- pairwise, for the eight variables
-abbrev pub Equal : Values → Values → Type 0
-Equal ρ σ = (v : ℕ) → v < 8 → ρ v .top *ℤ σ v .bottom ≡ σ v .top *ℤ ρ v .bottom
 
 cancel-up : (k a b : ℤ) → sgn k ≡ plus → k ⊗ a ≡ k ⊗ b → a ≡ b
 cancel-up k a b h e = back ∙ ap (λ (x : ℤ). x ⊕ b) (sgn-nil (a ⊝ b) none-left) ∙ ⊕-idl b

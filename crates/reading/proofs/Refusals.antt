@@ -1,5 +1,7 @@
 -- 01, 'Answers and their order': the numbers that reading refuses with. A record is refused with 3 to 7, a formula with 3 to 8, a sheet with 2 to 9;
 -- so a refusal's number is never 0. Assumes nothing.
+use mathlib.Core.Path.{_≡_, refl}
+use mathlib.Core.Logic.{_⊎_, inl, inr}
 use mathlib.Core.Bool.{Bool, true, false}
 use mathlib.Core.List.{List}
 use Prim.Native.Nat.{ℕ, zero, suc, _≤_}
@@ -11,7 +13,7 @@ use Rattle.reading.specs.Bytes.{le2}
 use Rattle.reading.specs.Formula.{Formula, Formulas, Label, follow, size}
 use Rattle.reading.specs.Records.{Record, bad, opened, pick, Kind, atomK, notK, listK, quantK, windowK, unknown, kindOf, sized, allM, byKind, head}
 use Rattle.reading.specs.Reading.{Read, good, fault, joined, then, formulasIn, under, tooDeep, body, formulaIn}
-use Rattle.reading.specs.Answers.{wholeOf, reading}
+use Rattle.reading.specs.Answers.{wholeOf, reading, answerOf}
 use Rattle.reading.specs.declared.Reply.{Reply}
 use Rattle.reading.specs.declared.Reply.the-variants.{Done, Refused}
 
@@ -96,3 +98,11 @@ whole-numbered n (fault e p) h = omega arith
 pub reading-numbered : (limit d : ℕ) (s : List ℕ) → ReplyNumbered (reading limit d s)
 unfolding reading
 reading-numbered limit d s = pick-reply (ltb limit (length s)) (Refused 2 0) (wholeOf (length s) (formulaIn d s)) (omega arith) (whole-numbered (length s) (formulaIn d s) (formula-numbered d s))
+
+-- an answer is 0 at 0, or a number from 2 to 9
+pub answer-numbered : (limit d : ℕ) (s : List ℕ) → ((answerOf (reading limit d s) .number ≡ 0) × (answerOf (reading limit d s) .place ≡ 0)) ⊎ ((2 ≤ answerOf (reading limit d s) .number) × (answerOf (reading limit d s) .number ≤ 9))
+answer-numbered limit d s = go (reading limit d s) (reading-numbered limit d s)
+  where
+    go : (r : Reply) → ReplyNumbered r → ((answerOf r .number ≡ 0) × (answerOf r .place ≡ 0)) ⊎ ((2 ≤ answerOf r .number) × (answerOf r .number ≤ 9))
+    go (Done k) h = inl (refl, refl)
+    go (Refused n p) h = inr h

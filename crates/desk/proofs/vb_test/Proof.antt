@@ -16,8 +16,7 @@ returns : tie.Need-returns
 returns c =
     let a = c .before .before in
     let f = a .fits in
-    let e = c .test .ensures ∙ (λ i. tested (a .args .sheet .now) (rd (f .p0) i ∷ rd (f .p1) i ∷ rd (f .p2) i ∷ rd (f .p3) i ∷ rd (f .p4) i ∷ rd (f .p5) i ∷ rd (f .p6) i ∷ rd (f .p7) i ∷ rd (f .q) i ∷ [])) in
-    ((ap (λ (t : Tested). t .number) e, ap (λ (t : Tested). t .verdict) e), ap (λ (t : Tested). t .place) e)
+    c .test .ensures ∙ (λ i. tested (a .args .sheet .now) (rd (f .p0) i ∷ rd (f .p1) i ∷ rd (f .p2) i ∷ rd (f .p3) i ∷ rd (f .p4) i ∷ rd (f .p5) i ∷ rd (f .p6) i ∷ rd (f .p7) i ∷ rd (f .q) i ∷ []))
 
 pub vb-test-spec : {M : Type 1} → statement M
 vb-test-spec = tie.close (tie.spec test-requires returns)

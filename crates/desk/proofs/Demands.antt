@@ -1,0 +1,147 @@
+-- The three demands, from the bytes that C hands over to the reply and the bytes that it finds. Each is said of any reply that the promise of the call
+-- (`Eliminates`, `TestsAt`, `ReadsAs`, `LooksAt` of specs/Promises, which the exported functions are proved to keep) allows. That every call ends, for
+-- all bytes and lengths, is part of each proof: no call has a `requires`. `Bytes sheet` says that each element of the sheet is below 256, so it
+-- restricts nothing: C can hand over nothing else. Assumes nothing.
+use mathlib.Core.Path.{_≡_, sym, _∙_, ap, subst}
+use mathlib.Core.Logic.{_⊎_, _↔_}
+use mathlib.Core.List.{List, [], _++_}
+use Prim.Native.Nat.{ℕ, _+_, _-_, _≤_}
+use lib.ListN.{length, take, drop}
+use lib.IntN.{ℤ, pos}
+use lib.Signed.{_<ℤ_}
+use Rattle.reading.specs.Limits.{sheetLevels, resultBytes, resultLevels}
+use Rattle.reading.specs.Bytes.{Bytes}
+use Rattle.reading.specs.Formula.{Formula, encode, Fits, Free}
+use Rattle.reading.specs.Answers.{reading, answerOf}
+use Rattle.reading.specs.Quantifiers.{QuantifierAt, lookPart}
+use Rattle.reading.specs.declared.Answer.{Answer}
+use Rattle.reading.proofs.Trees as Trees
+use Rattle.reading.proofs.Refusals as Refusals
+use Rattle.reading.proofs.Whole as Whole
+use Rattle.reading.proofs.Looking as Looking
+use Rattle.exact.specs.Numbers.{at}
+use Rattle.elimination.specs.Eliminate.{Result, cleared, zeros, eliminate}
+use Rattle.elimination.specs.Testing.{tested}
+use Rattle.elimination.specs.Meaning.{Values, sumOf, Means}
+use Rattle.elimination.specs.Variables.{Closed}
+use Rattle.elimination.proofs.Answering as Answering
+use Rattle.elimination.proofs.Demand3 as Demand3
+use Rattle.elimination.proofs.Closed as Closed
+use Rattle.elimination.proofs.Valuing as Valuing
+use Rattle.elimination.proofs.Truth as Truth
+use Rattle.desk.specs.Promises.{gave, Eliminates, gaveTest, TestsAt, gavePlace, ReadsAs, gavePart, LooksAt}
+use Rattle.desk.specs.declared.Reply.{Reply}
+use Rattle.desk.specs.declared.Tested.{Tested}
+use Rattle.desk.specs.declared.Place.{Place}
+use Rattle.desk.specs.declared.Part.{Part}
+
+-- ==== Demand 1: a result, or a numbered refusal and its place; and the rules fix what is in every buffer afterwards
+
+-- a sheet's formula of at most d levels has a quantifier at the place p
+abbrev pub AtQuantifier : ℕ → List ℕ → ℕ → Type 0
+AtQuantifier d sheet p = (f : Formula) × Fits d f × (sheet ≡ encode f) × QuantifierAt p f
+
+-- vb_eliminate: the numbers 0 to 12; the place lies in the sheet, and that of 10 to 12 is a quantifier of its formula, or for 12 the sheet's length;
+-- verdict 0, 1 or 2 for a result of at most 65,536 bytes, 3 and length 0 for a refusal. 1 to 9 change neither buffer; 10 to 12 leave zeros in the first
+-- 65,536 bytes of both; 0 leaves zeros after the result, and zeros in the work buffer; no byte past the first 65,536 ever changes.
+pub record EliminateAnswers (sheet out₀ work₀ : List ℕ) (r : Reply) (out work : List ℕ) : Type 0 where
+  pub number : r .number ≤ 12
+  pub place : r .place ≤ length sheet
+  pub quantifier : 10 ≤ r .number → AtQuantifier sheetLevels sheet (r .place) ⊎ ((r .number ≡ 12) × (r .place ≡ length sheet))
+  pub done : r .number ≡ 0 → (r .verdict ≤ 2) × (r .place ≡ 0) × (r .length ≤ resultBytes)
+  pub refused : 1 ≤ r .number → (r .verdict ≡ 3) × (r .length ≡ 0)
+  pub unread : 1 ≤ r .number → r .number ≤ 9 → (out ≡ out₀) × (work ≡ work₀)
+  pub stopped : 10 ≤ r .number → (out ≡ cleared out₀) × (work ≡ cleared work₀)
+  pub filled : r .number ≡ 0 → (drop (r .length) out ≡ zeros (resultBytes - r .length) ++ drop resultBytes out₀) × (work ≡ cleared work₀)
+  pub past : (drop resultBytes out ≡ drop resultBytes out₀) × (drop resultBytes work ≡ drop resultBytes work₀)
+
+-- vb_test: 0, 2 to 9, 13, 14; the place lies in the sheet, and that of 13 is a quantifier; verdict 0 or 1, or 3 for a refusal. It has no buffer.
+pub record TestAnswers (sheet : List ℕ) (t : Tested) : Type 0 where
+  pub number : (t .number ≡ 0) ⊎ (((2 ≤ t .number) × (t .number ≤ 9)) ⊎ ((t .number ≡ 13) ⊎ (t .number ≡ 14)))
+  pub place : t .place ≤ length sheet
+  pub quantifier : t .number ≡ 13 → AtQuantifier resultLevels sheet (t .place)
+  pub verdict : (t .number ≡ 0 → t .verdict ≤ 1) × (1 ≤ t .number → t .verdict ≡ 3)
+
+-- vb_read: 0 and 0, or 2 to 9 and a place in the sheet
+pub record ReadAnswers (sheet : List ℕ) (a : Place) : Type 0 where
+  pub number : ((a .number ≡ 0) × (a .place ≡ 0)) ⊎ ((2 ≤ a .number) × (a .number ≤ 9))
+  pub place : a .place ≤ length sheet
+
+-- vb_look: the part lies in the sheet
+pub record LookAnswers (sheet : List ℕ) (p : Part) : Type 0 where
+  pub within : p .at + p .length ≤ length sheet
+  pub bytes : take (p .length) (drop (p .at) sheet) ≡ look sheet
+
+module _ (sheet : List ℕ) (ok : Bytes sheet) where
+  pub eliminate-answers : (out₀ work₀ out work : List ℕ) (r : Reply) → Eliminates sheet out₀ work₀ r out work → EliminateAnswers sheet out₀ work₀ r out work
+  eliminate-answers out₀ work₀ out work r e = subst (λ (o : Result). EliminateAnswers sheet out₀ work₀ (reply o) (o .result) (o .work)) (sym e) (record {
+    number = Answering.eliminate-number sheet out₀ work₀ ok;
+    place = Answering.eliminate-place sheet out₀ work₀ ok;
+    quantifier = Answering.eliminate-quantifier sheet out₀ work₀ ok;
+    done = Answering.eliminate-done sheet out₀ work₀ ok;
+    refused = Answering.eliminate-refused sheet out₀ work₀ ok;
+    unread = Answering.eliminate-unread sheet out₀ work₀ ok;
+    stopped = Answering.eliminate-stopped sheet out₀ work₀ ok;
+    filled = Answering.eliminate-filled sheet out₀ work₀ ok;
+    past = Answering.eliminate-past sheet out₀ work₀ ok;
+  })
+
+  pub test-answers : (w : List ℤ) (t : Tested) → TestsAt sheet w t → TestAnswers sheet t
+  test-answers w t e = subst (λ (o : Elimination.Tested). TestAnswers sheet (testReply o)) (sym e) (record {
+    number = Answering.test-number sheet w ok;
+    place = Answering.test-place sheet w ok;
+    quantifier = Answering.test-quantifier sheet w ok;
+    verdict = Answering.test-verdict sheet w ok;
+  })
+
+  pub read-answers : (a : Place) → ReadsAs sheet a → ReadAnswers sheet a
+  read-answers a e = subst (λ (o : Answer). ReadAnswers sheet (placeReply o)) (sym e) (record { number = Refusals.reading-answer resultBytes resultLevels sheet; place = Whole.place-within resultBytes resultLevels sheet })
+
+  pub look-answers : (p : Part) → LooksAt sheet p → LookAnswers sheet p
+  look-answers p e = subst (λ (o : Reading.Part). LookAnswers sheet (partReply o)) (sym e) (record { within = Looking.look-within sheet ok; bytes = look-is })
+
+-- ==== Demand 2: each promise is an equation with 01's definition, so any two replies that it allows are equal, and so are the buffers
+
+pub one-elimination : (sheet out₀ work₀ : List ℕ) (r s : Reply) (a b c d : List ℕ) → Eliminates sheet out₀ work₀ r a b → Eliminates sheet out₀ work₀ s c d → (r ≡ s) × (a ≡ c) × (b ≡ d)
+one-elimination sheet out₀ work₀ r s a b c d g h = let e = g ∙ sym h in (ap reply e, ap (λ (o : Result). o .result) e, ap (λ (o : Result). o .work) e)
+
+pub one-test : (sheet : List ℕ) (w : List ℤ) (s t : Tested) → TestsAt sheet w s → TestsAt sheet w t → s ≡ t
+one-test sheet w s t g h = ap testReply (g ∙ sym h)
+
+pub one-reading : (sheet : List ℕ) (a b : Place) → ReadsAs sheet a → ReadsAs sheet b → a ≡ b
+one-reading sheet a b g h = ap placeReply (g ∙ sym h)
+
+pub one-look : (sheet : List ℕ) (p q : Part) → LooksAt sheet p → LooksAt sheet q → p ≡ q
+one-look sheet p q g h = ap partReply (g ∙ sym h)
+
+-- ==== Demand 3: what is delivered means what the sheet says, at any rational values
+
+-- bytes are those of at most one formula within any limits
+pub one-formula : (f g : Formula) (d e : ℕ) → Fits d f → Fits e g → encode f ≡ encode g → f ≡ g
+one-formula = Trees.encode-one
+
+-- and an accepted sheet's are those of one
+pub a-formula : (sheet out₀ work₀ out work : List ℕ) (r : Reply) → Bytes sheet → Eliminates sheet out₀ work₀ r out work → r .number ≡ 0 → (f : Formula) × Fits sheetLevels f × (sheet ≡ encode f)
+a-formula sheet out₀ work₀ out work r ok e z = Answering.eliminate-read sheet out₀ work₀ ok (sym (ap (λ (o : Result). o .number) e) ∙ z)
+
+-- bytes of a condition within the limits of a result and without quantifiers, which holds at any values exactly where f does
+pub record SameMeaning (f : Formula) (condition : List ℕ) : Type 0 where
+  pub after : Formula
+  pub bytes : condition ≡ encode after
+  pub fits : Fits resultLevels after
+  pub free : Free after
+  pub means : (ρ : Values) → Means after ρ ↔ Means f ρ
+
+-- of that formula f of the sheet, where the answer is 0
+module _ (f : Formula) (sheet out₀ work₀ out work : List ℕ) (r : Reply) (ok : Bytes sheet) (fits : Fits sheetLevels f) (is : sheet ≡ encode f) (gives : Eliminates sheet out₀ work₀ r out work) (z : r .number ≡ 0) where
+  -- the delivered condition, the first bytes of the result buffer
+  pub same-meaning : SameMeaning f (take (r .length) out)
+  same-meaning = ?
+
+  -- a sheet without free variables gets 1 exactly when it is true and 0 exactly when it is false
+  pub closed-verdict : Closed f → (ρ : Values) → ((r .verdict ≡ 1) ↔ Means f ρ) × ((r .verdict ≡ 0) ↔ (¬ Means f ρ))
+  closed-verdict shut ρ = ?
+
+-- the test: there is such a formula; it has no quantifier; at the fractions with these tops and this bottom it holds exactly where the verdict is 1
+pub a-tested-formula : (sheet : List ℕ) (w : List ℤ) (t : Tested) → Bytes sheet → TestsAt sheet w t → t .number ≡ 0 → (f : Formula) × Fits resultLevels f × (sheet ≡ encode f)
+a-tested-formula sheet w t ok e z = Answering.test-read sheet w ok (sym (ap (λ (o : Elimination.Tested). o .number) e) ∙ z)

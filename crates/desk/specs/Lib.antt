@@ -1,0 +1,2 @@
+-- What the calls that C makes promise.
+pub mod Promises
