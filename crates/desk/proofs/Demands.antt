@@ -4,7 +4,7 @@
 -- restricts nothing: C can hand over nothing else. Assumes nothing.
 use mathlib.Core.Path.{_≡_, sym, _∙_, ap, subst}
 use mathlib.Core.Logic.{_⊎_, _↔_}
-use mathlib.Core.List.{List, [], _++_}
+use mathlib.Core.List.{List, _++_}
 use Prim.Native.Nat.{ℕ, _+_, _-_, _≤_}
 use lib.ListN.{length, take, drop}
 use lib.IntN.{ℤ, pos}
@@ -12,28 +12,42 @@ use lib.Signed.{_<ℤ_}
 use Rattle.reading.specs.Limits.{sheetLevels, resultBytes, resultLevels}
 use Rattle.reading.specs.Bytes.{Bytes}
 use Rattle.reading.specs.Formula.{Formula, encode, Fits, Free}
-use Rattle.reading.specs.Answers.{reading, answerOf}
-use Rattle.reading.specs.Quantifiers.{QuantifierAt, lookPart}
+use Rattle.reading.specs.Quantifiers.{QuantifierAt}
 use Rattle.reading.specs.declared.Answer.{Answer}
+use Rattle.reading.specs.declared.Part as Reading
 use Rattle.reading.proofs.Trees as Trees
 use Rattle.reading.proofs.Refusals as Refusals
 use Rattle.reading.proofs.Whole as Whole
 use Rattle.reading.proofs.Looking as Looking
 use Rattle.exact.specs.Numbers.{at}
-use Rattle.elimination.specs.Eliminate.{Result, cleared, zeros, eliminate}
-use Rattle.elimination.specs.Testing.{tested}
-use Rattle.elimination.specs.Meaning.{Values, sumOf, Means}
+use Rattle.elimination.specs.Eliminate.{Result, cleared, zeros, resultOf}
+use Rattle.elimination.specs.Testing.{trueAt}
+use Rattle.elimination.specs.Meaning.{Values, fractions, Equal, sumOf, Means}
 use Rattle.elimination.specs.Variables.{Closed}
+use Rattle.elimination.specs.declared.Tested as Elimination
 use Rattle.elimination.proofs.Answering as Answering
-use Rattle.elimination.proofs.Demand3 as Demand3
-use Rattle.elimination.proofs.Closed as Closed
+use Rattle.elimination.proofs.Demand3 as Meanings
+use Rattle.elimination.proofs.Closed as Closing
 use Rattle.elimination.proofs.Valuing as Valuing
 use Rattle.elimination.proofs.Truth as Truth
-use Rattle.desk.specs.Promises.{gave, Eliminates, gaveTest, TestsAt, gavePlace, ReadsAs, gavePart, LooksAt}
+use Rattle.desk.specs.Promises.{Eliminates, TestsAt, ReadsAs, LooksAt}
 use Rattle.desk.specs.declared.Reply.{Reply}
 use Rattle.desk.specs.declared.Tested.{Tested}
 use Rattle.desk.specs.declared.Place.{Place}
 use Rattle.desk.specs.declared.Part.{Part}
+
+-- the definitions' records as C gets them
+abbrev reply : Result → Reply
+reply o = record { number = o .number; verdict = o .verdict; place = o .place; length = o .length }
+
+abbrev testReply : Elimination.Tested → Tested
+testReply o = record { number = o .number; verdict = o .verdict; place = o .place }
+
+abbrev placeReply : Answer → Place
+placeReply o = record { number = o .number; place = o .place }
+
+abbrev partReply : Reading.Part → Part
+partReply o = record { at = o .at; length = o .length }
 
 -- ==== Demand 1: a result, or a numbered refusal and its place; and the rules fix what is in every buffer afterwards
 
@@ -70,7 +84,6 @@ pub record ReadAnswers (sheet : List ℕ) (a : Place) : Type 0 where
 -- vb_look: the part lies in the sheet
 pub record LookAnswers (sheet : List ℕ) (p : Part) : Type 0 where
   pub within : p .at + p .length ≤ length sheet
-  pub bytes : take (p .length) (drop (p .at) sheet) ≡ look sheet
 
 module _ (sheet : List ℕ) (ok : Bytes sheet) where
   pub eliminate-answers : (out₀ work₀ out work : List ℕ) (r : Reply) → Eliminates sheet out₀ work₀ r out work → EliminateAnswers sheet out₀ work₀ r out work
@@ -95,10 +108,10 @@ module _ (sheet : List ℕ) (ok : Bytes sheet) where
   })
 
   pub read-answers : (a : Place) → ReadsAs sheet a → ReadAnswers sheet a
-  read-answers a e = subst (λ (o : Answer). ReadAnswers sheet (placeReply o)) (sym e) (record { number = Refusals.reading-answer resultBytes resultLevels sheet; place = Whole.place-within resultBytes resultLevels sheet })
+  read-answers a e = subst (λ (o : Answer). ReadAnswers sheet (placeReply o)) (sym e) (record { number = Refusals.answer-numbered resultBytes resultLevels sheet; place = Whole.place-within resultBytes resultLevels sheet })
 
   pub look-answers : (p : Part) → LooksAt sheet p → LookAnswers sheet p
-  look-answers p e = subst (λ (o : Reading.Part). LookAnswers sheet (partReply o)) (sym e) (record { within = Looking.look-within sheet ok; bytes = look-is })
+  look-answers p e = subst (λ (o : Reading.Part). LookAnswers sheet (partReply o)) (sym e) (record { within = Looking.look-within sheet ok })
 
 -- ==== Demand 2: each promise is an equation with 01's definition, so any two replies that it allows are equal, and so are the buffers
 
@@ -134,14 +147,50 @@ pub record SameMeaning (f : Formula) (condition : List ℕ) : Type 0 where
 
 -- of that formula f of the sheet, where the answer is 0
 module _ (f : Formula) (sheet out₀ work₀ out work : List ℕ) (r : Reply) (ok : Bytes sheet) (fits : Fits sheetLevels f) (is : sheet ≡ encode f) (gives : Eliminates sheet out₀ work₀ r out work) (z : r .number ≡ 0) where
+  named : Truth.Named f
+  named = Truth.fits-named sheetLevels f fits
+
+  delivers : Answering.Delivers f sheet out₀ work₀
+  delivers = Answering.eliminate-delivers f sheet out₀ work₀ ok fits is (sym (ap (λ (o : Result). o .number) gives) ∙ z)
+
   -- the delivered condition, the first bytes of the result buffer
   pub same-meaning : SameMeaning f (take (r .length) out)
-  same-meaning = ?
+  same-meaning =
+      let d = delivers in
+      record {
+        after = resultOf f;
+        bytes = ap (λ (o : Result). take (o .length) (o .result)) (gives ∙ d .answer) ∙ Answering.delivered-bytes (resultOf f) out₀ work₀;
+        fits = d .fits;
+        free = Meanings.result-free f;
+        means = Meanings.result-means f named;
+      }
 
   -- a sheet without free variables gets 1 exactly when it is true and 0 exactly when it is false
   pub closed-verdict : Closed f → (ρ : Values) → ((r .verdict ≡ 1) ↔ Means f ρ) × ((r .verdict ≡ 0) ↔ (¬ Means f ρ))
-  closed-verdict shut ρ = ?
+  closed-verdict shut ρ =
+      subst (λ (v : ℕ). ((v ≡ 1) ↔ Means f ρ) × ((v ≡ 0) ↔ (¬ Means f ρ))) (sym (ap (λ (o : Result). o .verdict) (gives ∙ delivers .answer))) (Closing.closed-says f named shut ρ)
 
--- the test: there is such a formula; it has no quantifier; at the fractions with these tops and this bottom it holds exactly where the verdict is 1
+-- the test: an accepted sheet is the bytes of a formula too
 pub a-tested-formula : (sheet : List ℕ) (w : List ℤ) (t : Tested) → Bytes sheet → TestsAt sheet w t → t .number ≡ 0 → (f : Formula) × Fits resultLevels f × (sheet ≡ encode f)
 a-tested-formula sheet w t ok e z = Answering.test-read sheet w ok (sym (ap (λ (o : Elimination.Tested). o .number) e) ∙ z)
+
+-- it has no quantifier, the denominator is above 0, and the verdict is 1 exactly where the formula holds at these fractions, 0 exactly where not
+pub record TestMeaning (f : Formula) (w : List ℤ) (verdict : ℕ) : Type 0 where
+  pub free : Free f
+  pub above : pos 0 <ℤ at w 8
+  pub true-is : (verdict ≡ 1) ↔ Means f (fractions w above)
+  pub false-is : (verdict ≡ 0) ↔ (¬ Means f (fractions w above))
+
+pub test-meaning : (f : Formula) (sheet : List ℕ) (w : List ℤ) (t : Tested) → Bytes sheet → Fits resultLevels f → sheet ≡ encode f → TestsAt sheet w t → t .number ≡ 0 → TestMeaning f w (t .verdict)
+test-meaning f sheet w t ok fits is e z =
+    let d = Answering.test-done f sheet w ok fits is (sym (ap (λ (o : Elimination.Tested). o .number) e) ∙ z) in
+    let v = Meanings.verdict-says (Means f (fractions w (d .above))) (trueAt w f) (t .verdict) (ap (λ (o : Elimination.Tested). o .verdict) e ∙ d .truth) (Meanings.test-means f (Truth.fits-named resultLevels f fits) (d .free) w (d .above)) in
+    record { free = d .free; above = d .above; true-is = v .0; false-is = v .1 }
+
+-- equal fractions give the same truth
+pub equal-fractions : (f : Formula) (d : ℕ) → Fits d f → (ρ σ : Values) → Equal ρ σ → Means f ρ ↔ Means f σ
+equal-fractions f d fits = Meanings.equal-fractions f (Truth.fits-named d f fits)
+
+-- a sum compares with 0 as its top does, because its bottom is above 0
+pub sum-above : (ns : List ℤ) (ρ : Values) → pos 0 <ℤ sumOf 8 ns ρ .bottom
+sum-above ns ρ = Valuing.sum-above ns ρ 8

@@ -34,12 +34,12 @@ pub struct Part {
 pub extern "C" fn vb_eliminate(sheet: &[u8], result: &mut [u8], work: &mut [u8]) -> Reply
     ensures { λ r. ⌜ Eliminates (now (sheet .entry)) (now (result .entry)) (now (work .entry)) r (now (result .exit)) (now (work .exit)) ⌝ }
 {
-    let r = elimination::eliminate(sheet, result, work);
+    let done = elimination::eliminate(sheet, result, work);
     Reply {
-        number: r.number as u64,
-        verdict: r.verdict as u64,
-        place: r.place as u64,
-        length: r.length as u64,
+        number: done.number as u64,
+        verdict: done.verdict as u64,
+        place: done.place as u64,
+        length: done.length as u64,
     }
 }
 
@@ -59,11 +59,11 @@ pub extern "C" fn vb_test(
 ) -> Tested
     ensures { λ r. ⌜ TestsAt (now (sheet .entry)) (p0 ∷ p1 ∷ p2 ∷ p3 ∷ p4 ∷ p5 ∷ p6 ∷ p7 ∷ q ∷ []) r ⌝ }
 {
-    let r = elimination::test(sheet, [p0, p1, p2, p3, p4, p5, p6, p7, q]);
+    let said = elimination::test(sheet, [p0, p1, p2, p3, p4, p5, p6, p7, q]);
     Tested {
-        number: r.number as u64,
-        verdict: r.verdict as u64,
-        place: r.place as u64,
+        number: said.number as u64,
+        verdict: said.verdict as u64,
+        place: said.place as u64,
     }
 }
 
@@ -72,10 +72,10 @@ pub extern "C" fn vb_test(
 pub extern "C" fn vb_read(sheet: &[u8]) -> Place
     ensures { λ r. ⌜ ReadsAs (now (sheet .entry)) r ⌝ }
 {
-    let r = reading::read(sheet, reading::Limit::Result);
+    let read = reading::read(sheet, reading::Limit::Result);
     Place {
-        number: r.number as u64,
-        place: r.place as u64,
+        number: read.number as u64,
+        place: read.place as u64,
     }
 }
 
@@ -84,9 +84,9 @@ pub extern "C" fn vb_read(sheet: &[u8]) -> Place
 pub extern "C" fn vb_look(sheet: &[u8]) -> Part
     ensures { λ r. ⌜ LooksAt (now (sheet .entry)) r ⌝ }
 {
-    let r = reading::look_part(sheet);
+    let part = reading::look_part(sheet);
     Part {
-        at: r.at as u64,
-        length: r.length as u64,
+        at: part.at as u64,
+        length: part.length as u64,
     }
 }
