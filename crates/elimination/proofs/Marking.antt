@@ -11,13 +11,13 @@ use lib.Dec.{T, eqb, leb·suc-zero, lit<}
 use lib.IntN.{ℤ, pos, negsuc, negℤ, natAbs}
 use lib.ListN.{set, replicate, length-set, getD-replicate}
 use lib.Signed.{ltZ}
-use borrow.Author.Tests.{eqb-true, eqb-false, eq-eqb, ne-eqb}
+use borrow.Author.Tests.{eqb-true, eqb-false, ne-eqb}
 use Rattle.reading.specs.Formula.{Comparison, less, atmost, equal, Formula, Formulas, atom, not, list, quant, window, none, more, Free, AllFree}
 use Rattle.reading.specs.Records.{pick}
 use Rattle.exact.specs.Numbers.{at, tab, isZero, sameRow, minus, single}
 use Rattle.exact.specs.Terms.{leftAt, turned, termAt, termOf, boundOf}
 use Rattle.exact.proofs.Sign.{zero-of-abs}
-use Rattle.exact.proofs.Rows.{at-tab, same-is}
+use Rattle.exact.proofs.Rows.{at-tab, at-set, at-single, single-here, single-else, same-is}
 use Rattle.exact.proofs.Terms.{term-low, term-last}
 use Rattle.elimination.specs.Pushing.{flip, pushAtom, pushWindow, push, pushs}
 use Rattle.elimination.specs.Points.{insert, gather, gatherAll, terms}
@@ -29,7 +29,7 @@ use Rattle.elimination.proofs.Sums.{dot, upd, left, dot-upd, dot-same, 
 use Rattle.elimination.proofs.Line.{Mem}
 use Rattle.elimination.proofs.Fractions.{cmp, Ok, ev, cmp-ok, cmp-multiple, ok-multiple}
 use Rattle.elimination.proofs.Truth.{Rows, AllRows, rows-more}
-use Rattle.elimination.proofs.Pushed.{minus-one, at-minus, sgn-minus, at-set, at-single}
+use Rattle.elimination.proofs.Pushed.{minus-one, at-minus, sgn-minus}
 
 -- ---- a term marks a row
 
@@ -164,12 +164,6 @@ left-single : (v : ℕ) (a c : ℤ) (w : ℕ → ℤ) → v < 8 → dot (left (a
 left-single v a c w h = constant v c w h (left (at (single v a c)) v) (λ i k.
     ap (cond (eqb i v) O) (at-single v a c i k)
     ∙ left-cond (eqb i v) (eqb i 8) a c (λ e. ne-eqb i v (λ f. let g = eqb-true i 8 e in omega arith)))
-
-single-here : (v : ℕ) (a c : ℤ) → v < 8 → at (single v a c) v ≡ a
-single-here v a c h = at-single v a c v (omega arith) ∙ ap₂ (λ (d b : Bool). cond d c (cond b a O)) (ne-eqb v 8 (λ e. omega arith)) (eq-eqb v v refl)
-
-single-else : (x v : ℕ) (a c : ℤ) → x < 8 → (v ≡ x → ⊥) → at (single v a c) x ≡ O
-single-else x v a c h n = at-single v a c x (omega arith) ∙ ap₂ (λ (d b : Bool). cond d c (cond b a O)) (ne-eqb x 8 (λ e. omega arith)) (ne-eqb x v (λ e. n (sym e)))
 
 bound-ring : (a k b q : ℤ) → a ⊗ k ≡ ⊖ b → a ⊗ (k ⊗ q) ≡ ⊖ (pos 1 ⊗ (b ⊗ q))
 bound-ring a k b q h = first ∙ ap (λ (z : ℤ). z ⊗ q) h ∙ second

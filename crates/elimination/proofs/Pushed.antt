@@ -3,12 +3,8 @@ use mathlib.Core.Path.{_≡_, refl, sym, _∙_, ap, ap₂}
 use mathlib.Core.Bool.{Bool, true, false, cond}
 use mathlib.Core.List.{List}
 use Prim.Native.Nat.{ℕ, _<_}
-use native.Mathlib.Omega.{arith}
 use lib.Dec.{eqb}
 use lib.IntN.{ℤ, pos, negsuc, negℤ}
-use lib.ListN.{length, set, replicate, length-set, getD-replicate}
-use lib.Seq.{getD-set-same, getD-set-other}
-use borrow.Author.Tests.{eqb-true, eqb-false}
 use Rattle.reading.specs.Formula.{Comparison, less, atmost, equal, Formula, Formulas, atom, not, list, quant, window, none, more, Free, AllFree}
 use Rattle.exact.specs.Numbers.{at, minus, single}
 use Rattle.exact.proofs.Rows as Rows
@@ -35,21 +31,8 @@ sgn-minus ns w =
     ap sgn (dot-same (at (minus ns)) (λ i. negsuc 0 ⊗ at ns i) w (λ i h. at-minus ns i ∙ sym (minus-one (at ns i))) ∙ dot-times (negsuc 0) (at ns) w ∙ minus-one _)
     ∙ sgn-⊖ (dot (at ns) w)
 
-pub at-set : (l : List ℤ) (i : ℕ) (a : ℤ) (j : ℕ) → j < length l → at (set l i a) j ≡ cond (eqb j i) a (at l j)
-at-set l i a j h = go (eqb j i) refl
-  where
-    go : (b : Bool) → eqb j i ≡ b → at (set l i a) j ≡ cond b a (at l j)
-    go true e = let p = eqb-true j i e in ap (λ (k : ℕ). at (set l i a) k) p ∙ getD-set-same l i a O (omega arith)
-    go false e = getD-set-other l i j a O (eqb-false j i e)
-
-pub at-single : (v : ℕ) (a c : ℤ) (i : ℕ) → i < 9 → at (single v a c) i ≡ cond (eqb i 8) c (cond (eqb i v) a O)
-unfolding single
-at-single v a c i h =
-    at-set (set (replicate 9 O) v a) 8 c i (rw (length-set (replicate 9 O) v a) h)
-    ∙ ap (cond (eqb i 8) c) (at-set (replicate 9 O) v a i h ∙ ap (cond (eqb i v) a) (getD-replicate 9 i O O h))
-
 pub dot-single : (v : ℕ) (a c : ℤ) (w : ℕ → ℤ) → v < 8 → dot (at (single v a c)) w ≡ a ⊗ w v ⊕ c ⊗ w 8
-dot-single v a c w h = dot-same (at (single v a c)) (λ i. cond (eqb i 8) c (cond (eqb i v) a O)) w (at-single v a c) ∙ dot-pair v a c w h
+dot-single v a c w h = dot-same (at (single v a c)) (λ i. cond (eqb i 8) c (cond (eqb i v) a O)) w (Rows.at-single v a c) ∙ dot-pair v a c w h
 
 below-step : (x c q : ℤ) → ⊖ x ⊕ c ⊗ q ≡ c ⊗ q ⊝ x
 below-step x c q = simp ring

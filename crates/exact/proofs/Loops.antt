@@ -66,9 +66,9 @@ module _ {A : Type 0} where
   getD-tab (suc n) f zero d h = refl
   getD-tab (suc n) f (suc k) d h = getD-tab n (λ i. f (suc i)) k d (N.le-of-suc-le-suc h)
 
-  pub tab-ext : (n : ℕ) (f g : ℕ → A) → ((i : ℕ) → f i ≡ g i) → tab n f ≡ tab n g
+  pub tab-ext : (n : ℕ) (f g : ℕ → A) → ((i : ℕ) → i < n → f i ≡ g i) → tab n f ≡ tab n g
   tab-ext zero f g h = refl
-  tab-ext (suc n) f g h = ap₂ (λ (x : A) (l : List A). x ∷ l) (h 0) (tab-ext n (λ i. f (suc i)) (λ i. g (suc i)) (λ i. h (suc i)))
+  tab-ext (suc n) f g h = ap₂ (λ (x : A) (l : List A). x ∷ l) (h 0 (omega arith)) (tab-ext n (λ i. f (suc i)) (λ i. g (suc i)) (λ i k. h (suc i) (omega arith)))
 
 module _ {A : Type 0} (d : A) (f : ℕ → A) (n : ℕ) where
   -- of n elements the first i are f of their index

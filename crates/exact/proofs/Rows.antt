@@ -2,14 +2,15 @@
 -- it was, and bounds on each number carry over. Assumes nothing.
 use mathlib.Core.Path.{_≡_, refl, sym, _∙_, ap, ap₂, subst}
 use mathlib.Core.List.{List, [], _∷_}
-use mathlib.Core.Bool.{Bool, true, false, not, _&&_}
-use borrow.Author.Tests.{le-leb, leb-true, eq-eqb, ne-eqb, eqb-true}
+use mathlib.Core.Bool.{Bool, true, false, not, cond, _&&_}
+use borrow.Author.Tests.{le-leb, leb-true, eq-eqb, ne-eqb, eqb-true, eqb-false}
 use Prim.Native.Nat.{ℕ, zero, suc, _+_, _^_, _≤_, _<_, _∣_, zero-le}
 use native.Mathlib.Nat as N
 use native.Mathlib.Numerals.{add-one}
-use lib.Dec.{T, ltb, leb}
-use lib.ListN.{length, drop, getD, set, replicate, drop-of-length-le, length-map, length-set}
-use lib.Seq.{drop-cons}
+use native.Mathlib.Omega.{arith}
+use lib.Dec.{T, ltb, leb, eqb}
+use lib.ListN.{length, drop, getD, set, replicate, drop-of-length-le, length-map, length-set, getD-replicate}
+use lib.Seq.{drop-cons, getD-set-same, getD-set-other}
 use lib.IntN.{ℤ, pos, negsuc, negℤ, natAbs, _*ℤ_, zero-*ℤ}
 use lib.Signed.{quotZ}
 use mir.Syntax.{w64}
@@ -273,6 +274,29 @@ each-minus {n} {l} e = record { at = λ i. subst (Within n) (sym (at-minus l i))
 pub length-single : (v : ℕ) (a c : ℤ) → length (single v a c) ≡ 9
 unfolding single
 length-single v a c = length-set (set (replicate 9 (pos 0)) v a) 8 c ∙ length-set (replicate 9 (pos 0)) v a
+
+-- ---- one number set, and the nine of `single`
+
+pub at-set : (l : List ℤ) (i : ℕ) (a : ℤ) (j : ℕ) → j < length l → at (set l i a) j ≡ cond (eqb j i) a (at l j)
+at-set l i a j h = go (eqb j i) refl
+  where
+    go : (b : Bool) → eqb j i ≡ b → at (set l i a) j ≡ cond b a (at l j)
+    go true e = let p = eqb-true j i e in ap (λ (k : ℕ). at (set l i a) k) p ∙ getD-set-same l i a (pos 0) (omega arith)
+    go false e = getD-set-other l i j a (pos 0) (eqb-false j i e)
+
+pub at-single : (v : ℕ) (a c : ℤ) (i : ℕ) → i < 9 → at (single v a c) i ≡ cond (eqb i 8) c (cond (eqb i v) a (pos 0))
+unfolding single
+at-single v a c i h =
+    at-set (set (replicate 9 (pos 0)) v a) 8 c i (rw (length-set (replicate 9 (pos 0)) v a) h)
+    ∙ ap (cond (eqb i 8) c) (at-set (replicate 9 (pos 0)) v a i h ∙ ap (cond (eqb i v) a) (getD-replicate 9 i (pos 0) (pos 0) h))
+
+-- the coefficient of v is a, that of each other variable 0
+pub single-here : (v : ℕ) (a c : ℤ) → v < 8 → at (single v a c) v ≡ a
+single-here v a c h = at-single v a c v (omega arith) ∙ ap₂ (λ (d b : Bool). cond d c (cond b a (pos 0))) (ne-eqb v 8 (λ e. omega arith)) (eq-eqb v v refl)
+
+pub single-else : (x v : ℕ) (a c : ℤ) → x < 8 → (v ≡ x → ⊥) → at (single v a c) x ≡ pos 0
+single-else x v a c h n =
+    at-single v a c x (omega arith) ∙ ap₂ (λ (d b : Bool). cond d c (cond b a (pos 0))) (ne-eqb x 8 (λ e. omega arith)) (ne-eqb x v (λ e. n (sym e)))
 
 -- ---- the divisor and each number
 

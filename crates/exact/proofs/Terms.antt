@@ -1,5 +1,6 @@
--- Boundary terms and midpoints: what the loops that make them have done, their sizes and lengths, that their denominators are above 0, and
--- that the midpoint of a term with itself is the term. Assumes nothing.
+-- Boundary terms and midpoints: what the loops that make them have done, their sizes and lengths, that their denominators are above 0,
+-- that the midpoint of a term with itself is the term, and that an atom and its negation have one term and a WINDOW's two atoms its bounds.
+-- Assumes nothing.
 -- ---- a number with its variable left out, or its sign turned
 use mathlib.Core.Logic.{_⊎_, inl, inr}
 use native.Mathlib.Nat as N
@@ -10,18 +11,18 @@ use mathlib.Core.Bool.{Bool, true, false, not, cond}
 use Prim.Native.Nat.{_*_, ℕ, _<_, zero-le, zero, suc}
 use native.Mathlib.Omega.{arith}
 use lib.Dec.{T, leb·suc-zero, eqb, ltb, lit<}
-use borrow.Author.Tests.{lt-ltb, eq-eqb, ne-eqb}
+use borrow.Author.Tests.{lt-ltb, ltb-true, eq-eqb, ne-eqb, eqb-true}
 use lib.ListN.{set, length}
 use lib.IntN.{ℤ, pos, _+ℤ_, _*ℤ_, negsuc, negℤ}
 use lib.Signed.{ltZ}
 use Rattle.reading.specs.Limits.{M}
-use Rattle.exact.specs.Numbers.{at, isZero, minus, tab, Within, Each}
+use Rattle.exact.specs.Numbers.{at, isZero, minus, single, tab, Within, Each}
 use Rattle.exact.specs.Terms.{leftAt, turned, termAt, midAt, midOf, boundOf, termOf, midpoint}
 use Rattle.exact.specs.Divisor.{reduced}
 use Rattle.exact.proofs.Ring.{Expr.con, Expr._⊕_, Expr._⊗_, Expr.⊖_, _≐_, ring₁, ring₂}
 use Rattle.exact.proofs.Sizes.{in-neg, in-more, in-+, in-*, in-lit}
 use Rattle.exact.proofs.Loops.{Filled, fill-more, fill-done, length-tab, tab-ext}
-use Rattle.exact.proofs.Rows.{each-tab, each-reduced, at-minus, at-tab, at-times, each-cons, each-nil, length-reduced, length-times, times}
+use Rattle.exact.proofs.Rows.{each-tab, each-reduced, at-minus, at-tab, at-times, at-single, single-here, each-cons, each-nil, length-reduced, length-times, times}
 use Rattle.exact.proofs.Sign.{Above, ab-*, ab-as}
 use Rattle.exact.proofs.Reduced.{above-reduced, reduced-again, reduced-scale, unit-reduced}
 
@@ -201,7 +202,7 @@ neg-below (negsuc n) h = leb·suc-zero (suc n)
 
 pub term-minus : (ns : List ℤ) (x : ℕ) → isZero (at ns x) ≡ false → termOf (minus ns) x ≡ termOf ns x
 unfolding termOf termAt
-term-minus ns x h = ap reduced (tab-ext 10 (termAt (minus ns) x) (termAt ns x) (λ i. ap₂ (λ (y z : ℤ). cond (ltb i 9) y z) (low i) high))
+term-minus ns x h = ap reduced (tab-ext 10 (termAt (minus ns) x) (termAt ns x) (λ i _. ap₂ (λ (y z : ℤ). cond (ltb i 9) y z) (low i) high))
   where
     s : ltZ (at (minus ns) x) (pos 0) ≡ not (ltZ (at ns x) (pos 0))
     s = ap (λ (z : ℤ). ltZ z (pos 0)) (at-minus ns x) ∙ neg-below (at ns x) h
@@ -211,3 +212,49 @@ term-minus ns x h = ap reduced (tab-ext 10 (termAt (minus ns) x) (termAt ns x) (
 
     high : turned (ltZ (at (minus ns) x) (pos 0)) (at (minus ns) x) ≡ turned (ltZ (at ns x) (pos 0)) (at ns x)
     high = ap₂ turned s (at-minus ns x) ∙ turn-twice (ltZ (at ns x) (pos 0)) (at ns x)
+
+-- ---- the two atoms of a WINDOW have the terms lo/1 and hi/1
+
+-- number i of ± v + c with v left out
+left-single : (v : ℕ) (a c : ℤ) (i : ℕ) → v < 8 → i < 9 → leftAt (single v a c) v i ≡ cond (eqb i 8) c (pos 0)
+unfolding leftAt
+left-single v a c i h k = ap (cond (eqb i v) (pos 0)) (at-single v a c i k) ∙ go (eqb i v) (eqb i 8) refl refl
+  where
+    go : (b d : Bool) → eqb i v ≡ b → eqb i 8 ≡ d → cond b (pos 0) (cond d c (cond b a (pos 0))) ≡ cond d c (pos 0)
+    go true true p q = let m = eqb-true i v p in let n = eqb-true i 8 q in absurd (omega arith)
+    go true false p q = refl
+    go false d p q = refl
+
+side-below : (s : Bool) → ltZ (turned s (pos 1)) (pos 0) ≡ s
+side-below true = refl
+side-below false = refl
+
+-- v + c for the coefficient 1, −v + c for −1: the term is −c or c
+pub term-single : (v : ℕ) (s : Bool) (c : ℤ) → v < 8 → termOf (single v (turned s (pos 1)) c) v ≡ boundOf (turned (not s) c)
+unfolding termOf termAt boundOf
+term-single v s c h = ap reduced (tab-ext 10 (termAt ns v) (number s) same ∙ bound s) ∙ bound-reduced (turned (not s) c)
+  where
+    ns : List ℤ
+    ns = single v (turned s (pos 1)) c
+
+    number : Bool → ℕ → ℤ
+    number s i = cond (ltb i 9) (turned (not s) (cond (eqb i 8) c (pos 0))) (pos 1)
+
+    below : ltZ (at ns v) (pos 0) ≡ s
+    below = ap (λ (z : ℤ). ltZ z (pos 0)) (single-here v (turned s (pos 1)) c h) ∙ side-below s
+
+    one : (s : Bool) → turned s (turned s (pos 1)) ≡ pos 1
+    one true = refl
+    one false = refl
+
+    same : (i : ℕ) → i < 10 → termAt ns v i ≡ number s i
+    same i k = go (ltb i 9) refl
+      where
+        go : (b : Bool) → ltb i 9 ≡ b
+            → cond b (turned (not (ltZ (at ns v) (pos 0))) (leftAt ns v i)) (turned (ltZ (at ns v) (pos 0)) (at ns v)) ≡ cond b (turned (not s) (cond (eqb i 8) c (pos 0))) (pos 1)
+        go true e = ap₂ (λ (b : Bool) (z : ℤ). turned (not b) z) below (left-single v (turned s (pos 1)) c i h (ltb-true i 9 e))
+        go false e = ap₂ turned below (single-here v (turned s (pos 1)) c h) ∙ one s
+
+    bound : (s : Bool) → tab 10 (number s) ≡ boundOf (turned (not s) c)
+    bound true = refl
+    bound false = refl
