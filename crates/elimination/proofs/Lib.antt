@@ -1,9 +1,10 @@
--- The laws of `elimination`. First the definitions: formulas within the limits and around their last quantifier, one step, the run; then the meaning:
--- whole numbers and their signs, sums, the line of the fractions, truth at a vector, pushing, the list rule, boundary terms, copies, steps,
--- values; demand 3, free variables, closed sheets, the starred sheets. Then the code: what is written, the one pass and what it is, terms, points, one
--- step, the run, the test; and that each promise allows one reply.
+-- The laws of `elimination`. First the definitions: formulas within the limits, the terms of a pushed body, formulas around their last quantifier, one
+-- step, the run; then the meaning: whole numbers and their signs, sums, the line of the fractions, truth at a vector, pushing, the list rule, boundary
+-- terms, copies, steps, values; demand 3, free variables, closed sheets, the starred sheets. Then the code: what is written, the one pass and what it
+-- is, terms, points, one step, the run, the test; and that each promise allows one reply.
 pub mod Wide
 pub mod Fitting
+pub mod PushedTerms
 pub mod Around
 pub mod OneStep
 pub mod AllSteps
