@@ -1,18 +1,18 @@
 -- 01, 'Sheets with known results': every sheet that is marked there, from its bytes to the numbers that `eliminate` answers and the bytes of
--- the formula that it delivers, as one table under one statement. The answer is computed without a look at the buffers, so the statement holds
--- for all buffers that are long enough.
+-- the formula that it delivers, as one table under one statement; StarredMeaning adds what each sheet means. The answer is computed without a look
+-- at the buffers, so the statement holds for all buffers that are long enough.
 use Prim.Native.Nat.{ℕ, _≤_}
-use mathlib.Core.Path.{_≡_, refl, _∙_, ap, ap₂}
+use mathlib.Core.Path.{_≡_, refl, sym, _∙_, ap, ap₂}
 use mathlib.Core.Bool.{Bool, true, false, _||_, true≢false}
-use mathlib.Core.List.{List, [], _∷_}
+use mathlib.Core.List.{List, [], _∷_, append-nil}
 use native.Mathlib.Omega.{arith}
 use lib.Dec.{ltb}
 use lib.IntN.{ℤ, pos, negsuc}
-use lib.ListN.{length, take}
+use lib.ListN.{length, take, replicate, length-replicate}
 use lib.Seq.{take-append-seam}
 use borrow.Author.Tests.{ltb-true}
-use Rattle.reading.specs.Limits.{sheetBytes, sheetLevels, resultBytes}
-use Rattle.reading.specs.Formula.{less, atmost, equal, Formula, atom, not, list, quant, window, none, more, encode, fieldBytes, recordBytes}
+use Rattle.reading.specs.Limits.{sheetBytes, sheetLevels, resultBytes, resultLevels}
+use Rattle.reading.specs.Formula.{less, atmost, equal, Formula, atom, not, list, quant, window, none, more, encode, fieldBytes, recordBytes, Fits}
 use Rattle.reading.specs.Bytes.{int4, ints, intBytes}
 use Rattle.reading.specs.Records.{pick, kindOf, sized, inM, allM, byKind, head}
 use Rattle.reading.specs.Reading.{Read, good, fault, formulasIn, formulaIn}
@@ -20,6 +20,8 @@ use Rattle.reading.specs.Answers.{reading}
 use Rattle.reading.specs.Quantifiers.{seek}
 use Rattle.reading.specs.declared.Reply.{Reply}
 use Rattle.reading.specs.declared.Reply.the-variants.{Done, Refused}
+use Rattle.reading.proofs.Laws.{reads}
+use Rattle.reading.proofs.Trees.{encode-one}
 use Rattle.exact.specs.Numbers.{allIn, sameRow, minus, single}
 use Rattle.exact.specs.Divisor.{gcdOf, gcdFrom, gcds, quots, reduced}
 use Rattle.exact.specs.Terms.{leftAt, termAt, termOf, boundOf, midAt, midOf, midpoint}
@@ -30,6 +32,10 @@ use Rattle.elimination.specs.Copies.{copy, fits}
 use Rattle.elimination.specs.Points.{insert, gather, terms, midpoints, allMidpoints, points}
 use Rattle.elimination.specs.Steps.{copies, replacement, quantifiers, step, numbersFit, refusal, Run, ran, halted, run, eliminated}
 use Rattle.elimination.specs.Eliminate.{Result, verdictBy, delivered, finished, byRun, byReading, eliminate}
+use Rattle.elimination.proofs.Wide.{fits-wide, wide-fits}
+use Rattle.elimination.proofs.Fitting.{finished-fits}
+use Rattle.elimination.proofs.AllSteps.{eliminated-wide, eliminated-halted}
+use Rattle.elimination.proofs.Readable.{refused-number}
 
 -- what a sheet is answered: the four numbers, and the bytes of the result
 pub record Answer : Type 0 where
@@ -99,15 +105,24 @@ eliminate-answers sheet result work h k =
 
 -- ---- the table
 
+-- a sheet: the bytes of a formula, or bytes that are given as they are
+pub data Sheet : Type 0 where
+  of : Formula → Sheet
+  raw : List ℕ → Sheet
+
+abbrev pub bytesOf : Sheet → List ℕ
+bytesOf (of f) = encode f
+bytesOf (raw s) = s
+
 pub record Row : Type 0 where
-  pub sheet : List ℕ
+  pub sheet : Sheet
   pub answer : Answer
 
-abbrev row : Formula → Answer → Row
-row f a = record { sheet = encode f; answer = a }
+abbrev pub row : Formula → Answer → Row
+row f a = record { sheet = of f; answer = a }
 
 -- accepted, with the formula that is delivered
-abbrev gives : ℕ → ℕ → Formula → Answer
+abbrev pub gives : ℕ → ℕ → Formula → Answer
 gives v n g = record { number = 0; verdict = v; place = 0; length = n; bytes = encode g }
 
 -- a x + b y + c z + k, where x, y, z are variables 0, 1, 2
@@ -121,7 +136,7 @@ abbrev falsehood : Formula
 falsehood = list false none
 
 -- 3y − 2z < 0
-abbrev between : Formula
+abbrev pub between : Formula
 between = atom less (xyz (pos 0) (pos 3) (negsuc 1) (pos 0))
 
 -- y − 1 ≤ 0
@@ -164,13 +179,13 @@ table =
     -- some x: (x < 0 and some x: x > 0)
     ∷ row (quant false 0 (list true (two (atom less (xyz (pos 1) (pos 0) (pos 0) (pos 0))) (quant false 0 (atom less (xyz (negsuc 0) (pos 0) (pos 0) (pos 0))))))) (gives 1 6 truth)
     -- the empty sheet, and ALLOF of 0
-    ∷ record { sheet = []; answer = record { number = 3; verdict = 3; place = 0; length = 0; bytes = [] } }
+    ∷ record { sheet = raw []; answer = record { number = 3; verdict = 3; place = 0; length = 0; bytes = [] } }
     ∷ row truth (gives 1 6 truth)
     ∷ []
 
 -- a row holds when every call with long enough buffers gives its answer
 abbrev pub Holds : Row → Type 0
-Holds r = (result work : List ℕ) → Roomy result → Roomy work → answerOf (eliminate (r .sheet) result work) ≡ r .answer
+Holds r = (result work : List ℕ) → Roomy result → Roomy work → answerOf (eliminate (bytesOf (r .sheet)) result work) ≡ r .answer
 
 abbrev pub AllHold : List Row → Type 0
 AllHold [] = Unit {0}
@@ -178,7 +193,7 @@ AllHold (r ∷ rs) = Holds r × AllHold rs
 
 abbrev computed : List Row → List Answer
 computed [] = []
-computed (r ∷ rs) = answered (r .sheet) ∷ computed rs
+computed (r ∷ rs) = answered (bytesOf (r .sheet)) ∷ computed rs
 
 abbrev expected : List Row → List Answer
 expected [] = []
@@ -186,7 +201,7 @@ expected (r ∷ rs) = r .answer ∷ expected rs
 
 all-hold : (rs : List Row) → computed rs ≡ expected rs → AllHold rs
 all-hold [] h = tt
-all-hold (r ∷ rs) h = (λ result work a b. eliminate-answers (r .sheet) result work a b ∙ cc, all-hold rs (cc))
+all-hold (r ∷ rs) h = (λ result work a b. eliminate-answers (bytesOf (r .sheet)) result work a b ∙ cc, all-hold rs (cc))
 
 -- a sheet that midpoints of neighbours only would get wrong, every x: x ≤ 50, or not window(x, 40, 90), or x ≥ 60: false by 55, the midpoint of the
 -- first and the last of the terms 50, 40, 90, 60
@@ -202,3 +217,39 @@ starred = all-computed .1
 
 pub apart-holds : Holds apart
 apart-holds = all-computed .0
+
+-- ---- what an accepted row says of its formula
+
+buffer : (n : ℕ) → (b : List ℕ) × (n ≤ length b)
+buffer n = (replicate n 0, omega (arith, length-replicate {A = ℕ} n 0))
+
+-- the run ends, and what it ends in, finished, is the formula that is delivered
+abbrev pub Delivers : Formula → Formula → Type 0
+Delivers f g = (h : Formula) × (eliminated f ≡ ran h) × (finished h ≡ g)
+
+pub delivers : (f g : Formula) (v n : ℕ) → Fits sheetLevels f → Fits resultLevels g → Holds (row f (gives v n g)) → Delivers f g
+unfolding answered
+delivers f g v n w x holds = go (reading sheetBytes sheetLevels (encode f)) refl (ap (fromReading (length (encode f)) (reading sheetBytes sheetLevels (encode f))) (sym read) ∙ same)
+  where
+    read : formulaIn sheetLevels (encode f) ≡ good f (length (encode f))
+    read = rw (append-nil (encode f)) at (reads f sheetLevels [] w)
+
+    same : answered (encode f) ≡ gives v n g
+    same = let b = buffer resultBytes in sym (eliminate-answers (encode f) (b .0) (b .0) (b .1) (b .1)) ∙ holds (b .0) (b .0) (b .1) (b .1)
+
+    number : (a : Answer) → a ≡ gives v n g → a .number ≡ 0
+    number a e = ap (λ (a : Answer). a .number) e
+
+    last : (h : Formula) → eliminated f ≡ ran h → (b : Bool) → pick b (refusing 12 (length (encode f))) (delivering (finished h)) ≡ gives v n g → Delivers f g
+    last h q true e = absurd (omega (arith, number _ e))
+    last h q false e =
+        let k = eliminated-wide resultLevels f h (fits-wide f sheetLevels w) q in
+        (h, q, encode-one (finished h) g resultLevels resultLevels (wide-fits (finished h) resultLevels (finished-fits resultLevels h (k .0) (k .1))) x (ap (λ (a : Answer). a .bytes) e))
+
+    run-of : (r : Run) → eliminated f ≡ r → fromRun (length (encode f)) r ≡ gives v n g → Delivers f g
+    run-of (halted e p) q h = absurd (omega (arith, number _ h, eliminated-halted f e p q .low))
+    run-of (ran h) q e = last h q (ltb resultBytes (length (encode (finished h)))) e
+
+    go : (r : Reply) → reading sheetBytes sheetLevels (encode f) ≡ r → fromReading (length (encode f)) r (good f (length (encode f))) ≡ gives v n g → Delivers f g
+    go (Refused e p) q h = absurd (omega (arith, number _ h, refused-number sheetBytes sheetLevels (encode f) e p q))
+    go (Done k) q h = run-of (eliminated f) refl h
