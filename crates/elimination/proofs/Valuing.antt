@@ -26,7 +26,7 @@ use Rattle.elimination.proofs.Keeping.{upd-last}
 
 -- ---- comparisons and orders as tests of a sign
 
-compares-test : (c : Comparison) (z : ℤ) → Compares c z ↔ T (test c (sgn z))
+pub compares-test : (c : Comparison) (z : ℤ) → Compares c z ↔ T (test c (sgn z))
 unfolding sgn
 compares-test less (pos zero) = (λ h. h .lt, λ h. absurd h)
 compares-test less (pos (suc n)) = (λ h. rw (leb·suc-zero (suc n)) at (h .lt), λ h. absurd h)
