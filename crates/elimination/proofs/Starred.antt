@@ -2,7 +2,7 @@
 -- the formula that it delivers, as one table under one statement; StarredMeaning adds what each sheet means. The answer is computed without a look
 -- at the buffers, so the statement holds for all buffers that are long enough.
 use Prim.Native.Nat.{ℕ, _≤_}
-use mathlib.Core.Path.{_≡_, refl, sym, _∙_, ap, ap₂}
+use mathlib.Core.Path.{_≡_, refl, sym, _∙_, ap, ap₂, subst}
 use mathlib.Core.Bool.{Bool, true, false, _||_, true≢false}
 use mathlib.Core.List.{List, [], _∷_, append-nil}
 use native.Mathlib.Omega.{arith}
@@ -22,6 +22,7 @@ use Rattle.reading.specs.declared.Reply.{Reply}
 use Rattle.reading.specs.declared.Reply.the-variants.{Done, Refused}
 use Rattle.reading.proofs.Laws.{reads}
 use Rattle.reading.proofs.Trees.{encode-one}
+use Rattle.reading.proofs.Refusals.{ReplyNumbered, reading-numbered}
 use Rattle.exact.specs.Numbers.{allIn, sameRow, minus, single}
 use Rattle.exact.specs.Divisor.{gcdOf, gcdFrom, gcds, quots, reduced}
 use Rattle.exact.specs.Terms.{leftAt, termAt, termOf, boundOf, midAt, midOf, midpoint}
@@ -35,7 +36,6 @@ use Rattle.elimination.specs.Eliminate.{Result, verdictBy, delivered, fi
 use Rattle.elimination.proofs.Wide.{fits-wide, wide-fits}
 use Rattle.elimination.proofs.Fitting.{finished-fits}
 use Rattle.elimination.proofs.AllSteps.{eliminated-wide, eliminated-halted}
-use Rattle.elimination.proofs.Readable.{refused-number}
 
 -- what a sheet is answered: the four numbers, and the bytes of the result
 pub record Answer : Type 0 where
@@ -251,5 +251,5 @@ delivers f g v n w x holds = go (reading sheetBytes sheetLevels (encode f)) refl
     run-of (ran h) q e = last h q (ltb resultBytes (length (encode (finished h)))) e
 
     go : (r : Reply) → reading sheetBytes sheetLevels (encode f) ≡ r → fromReading (length (encode f)) r (good f (length (encode f))) ≡ gives v n g → Delivers f g
-    go (Refused e p) q h = absurd (omega (arith, number _ h, refused-number sheetBytes sheetLevels (encode f) e p q))
+    go (Refused e p) q h = let k = subst ReplyNumbered q (reading-numbered sheetBytes sheetLevels (encode f)) in absurd (omega (arith, number _ h, k .0))
     go (Done k) q h = run-of (eliminated f) refl h

@@ -15,7 +15,7 @@ use Rattle.reading.specs.Formula.{Comparison, less, atmost, Formula, atom, not,
 use Rattle.exact.specs.Numbers.{at, single}
 use Rattle.exact.proofs.Sign.{nn-le, le-nn, nn-as, ab-lt, lt-ab, ab-as}
 use Rattle.elimination.specs.Pushing.{two}
-use Rattle.elimination.specs.Eliminate.{finished}
+use Rattle.elimination.specs.Eliminate.{finished, resultOf}
 use Rattle.elimination.specs.Meaning.{Fraction, Values, put, Compares, OfNone, Means}
 use Rattle.elimination.proofs.Sealed.{_⊕_, _⊗_, ⊖, _⊝_, O, ring, ⊗-comm, ⊖-⊗}
 use Rattle.elimination.proofs.Signs.{sgn, sgn-up, up-⊗, test}
@@ -23,7 +23,7 @@ use Rattle.elimination.proofs.Sums.{total, dot}
 use Rattle.elimination.proofs.Fractions.{up}
 use Rattle.elimination.proofs.Truth.{fits-named, iff-sym, iff-trans, T-same}
 use Rattle.elimination.proofs.Pushed.{dot-single}
-use Rattle.elimination.proofs.Keeping.{eliminated-ran, result}
+use Rattle.elimination.proofs.AllSteps.{eliminated-ran}
 use Rattle.elimination.proofs.Valuing.{Represents, same-meaning, compares-test, common, common-represents}
 use Rattle.elimination.proofs.Demand3.{result-means}
 use Rattle.elimination.proofs.Starred.{Sheet, of, raw, Row, row, gives, xyz, between, atmostOne, aboveFive, atmostOnes, aboveFives, table, apart, Holds, AllHold, starred, apart-holds, delivers}
@@ -113,10 +113,10 @@ RowByRow P (r ∷ rs) (m ∷ ms) = P r m × RowByRow P rs ms
 
 -- an accepted row's formula means what the formula that it delivers means
 delivers-means : (f g : Formula) (v n : ℕ) → Fits sheetLevels f → Fits resultLevels g → Holds (row f (gives v n g)) → (ρ : Values) → Means f ρ ↔ Means g ρ
-unfolding result
+unfolding resultOf
 delivers-means f g v n w x h ρ =
     let d = delivers f g v n w x h in
-    let e : result f ≡ g = ap finished (sym (eliminated-ran f (d .0) (d .1))) ∙ d .2 in
+    let e : resultOf f ≡ g = ap finished (sym (eliminated-ran f (d .0) (d .1))) ∙ d .2 in
     iff-sym (subst (λ (k : Formula). Means k ρ ↔ Means f ρ) e (result-means f (fits-named sheetLevels f w) ρ))
 
 -- ---- atoms of one variable and of two
