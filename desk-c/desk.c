@@ -8,7 +8,6 @@
  */
 #include <inttypes.h>
 #include <stdio.h>
-#include <stdlib.h>
 #include <string.h>
 #include "visebobbin.h"
 
@@ -92,40 +91,60 @@ static const uint8_t *show(const uint8_t *p, int inside)
 
 static int64_t common(int64_t a, int64_t b) { return b == 0 ? a : common(b, a % b); }
 
-/* Eight fractions "1/2,3,.." over one denominator: 1 if they can be written so, 0 if not. */
-static int fractions(const char *text, int64_t p[8], int64_t *q)
+static const char not_fractions[] =
+    "--at takes one to eight fractions with commas between them and no blanks, as 1/2,3,-7/4, each denominator above 0";
+static const char out_of_range[] =
+    "--at takes values in -1,000,000 to 1,000,000 over denominators up to 1,000,000, as written and also over the least common denominator";
+
+/* The number whose digits stand at *text, and *text moved past them: -1 where there is no digit, VB_VALUE + 1 for any number above VB_VALUE. */
+static int64_t digits(const char **text)
 {
-    int64_t top[8] = {0}, bottom[8] = {1, 1, 1, 1, 1, 1, 1, 1};
-    for (int i = 0; *text; i++) {
-        char *end;
-        if (i == 8)
-            return 0;
-        top[i] = strtoll(text, &end, 10);
-        if (end == text)
-            return 0;
-        text = end;
+    int64_t number = -1;
+    for (; **text >= '0' && **text <= '9'; ++*text) {
+        number = (number < 0 ? 0 : 10 * number) + (**text - '0');
+        if (number > VB_VALUE)
+            number = VB_VALUE + 1;
+    }
+    return number;
+}
+
+/* One to eight fractions "1/2,3,.." as values over one denominator, the values not given 0: NULL, or what is wrong. A number above 1,000,000 is
+ * refused as it is written, also in 2000000/2, so every product here is at most 1,000,000 times 1,000,000. */
+static const char *fractions(const char *text, int64_t p[8], int64_t *q)
+{
+    int64_t sign[8] = {0}, top[8] = {0}, bottom[8] = {1, 1, 1, 1, 1, 1, 1, 1};
+    for (int i = 0;; i++, text++) {
+        sign[i] = *text == '-' ? -1 : 1;
+        text += *text == '-';
+        top[i] = digits(&text);
         if (*text == '/') {
-            bottom[i] = strtoll(text + 1, &end, 10);
-            if (end == text + 1 || bottom[i] < 1)
-                return 0;
-            text = end;
-        }
-        if (*text == ',')
             text++;
-        else if (*text)
-            return 0;
-        if (llabs(top[i]) > VB_VALUE || bottom[i] > VB_VALUE)
-            return 0;
+            bottom[i] = digits(&text);
+        }
+        if (top[i] < 0 || bottom[i] < 1)
+            return not_fractions;
+        if (!*text)
+            break;
+        if (*text != ',' || i == 7)
+            return not_fractions;
     }
     *q = 1;
     for (int i = 0; i < 8; i++) {
+        if (top[i] > VB_VALUE || bottom[i] > VB_VALUE)
+            return out_of_range;
+        int64_t both = common(top[i], bottom[i]);
+        top[i] /= both;
+        bottom[i] /= both;
         *q = *q / common(*q, bottom[i]) * bottom[i];
         if (*q > VB_VALUE)
-            return 0;
+            return out_of_range;
     }
-    for (int i = 0; i < 8; i++)
-        p[i] = top[i] * (*q / bottom[i]);
-    return 1;
+    for (int i = 0; i < 8; i++) {
+        p[i] = sign[i] * top[i] * (*q / bottom[i]);
+        if (p[i] < -VB_VALUE || p[i] > VB_VALUE)
+            return out_of_range;
+    }
+    return NULL;
 }
 
 static int refused(const char *what, uint64_t number, uint64_t place)
@@ -156,6 +175,12 @@ int main(int count, char **word)
         fprintf(stderr, "desk SHEET [--at 1/2,3,..] [--names a,b,..]\n");
         return 2;
     }
+    int64_t p[8] = {0}, q = 1;
+    const char *wrong = at ? fractions(at, p, &q) : NULL;
+    if (wrong) {
+        fprintf(stderr, "%s\n", wrong);
+        return 2;
+    }
     FILE *in = fopen(file, "rb");
     if (!in) {
         perror(file);
@@ -176,11 +201,6 @@ int main(int count, char **word)
         printf("\n");
     }
     if (at) {
-        int64_t p[8], q;
-        if (!fractions(at, p, &q)) {
-            fprintf(stderr, "--at takes up to eight fractions that fit one denominator of at most 1,000,000\n");
-            return 2;
-        }
         vb_tested tested = vb_test(result, reply.length, p[0], p[1], p[2], p[3], p[4], p[5], p[6], p[7], q);
         if (tested.number != VB_DONE)
             return refused("The test is", tested.number, tested.place);
