@@ -187,6 +187,10 @@ int main(int count, char **word)
         return 2;
     }
     size_t length = fread(sheet, 1, sizeof sheet, in); /* one byte more than the limit, so that a long sheet is refused and not cut */
+    if (ferror(in)) {
+        perror(file);
+        return 2;
+    }
     fclose(in);
 
     vb_reply reply = vb_eliminate(sheet, length, result, sizeof result, work, sizeof work);
