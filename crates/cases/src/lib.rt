@@ -1,4 +1,4 @@
-// What the gate's programs share: the next case of standard input, and numbers on a line.
+// What the gate's programs share: the next case of standard input, numbers on a line, and the checksum of bytes.
 
 ghost use Prim.Native.Nat.{_+_, _≤_, _<_};
 ghost use lib.ListN.{length};
@@ -37,4 +37,23 @@ pub fn fetch(buffer: &mut [u8]) -> usize {
     }
     io::read_full(0, &mut buffer[..n]);
     n
+}
+
+// One byte more of the checksum: the multiplication by 2^40 + 435 wraps.
+fn checked(h: u64, b: u8) -> u64 {
+    let x = h ^ (b as u64);
+    let low = (x % 4294967296) * 435;
+    let high = (x / 4294967296 % 4294967296) * 435;
+    std::num::wrapping_add_u64(x << 40, std::num::wrapping_add_u64(low, high << 32))
+}
+
+// The checksum of the bytes (FNV-1a, 64 bits).
+pub fn checksum(s: &[u8]) -> u64 {
+    let mut h: u64 = 14695981039346656037;
+    let mut i = 0;
+    while i < s.len() {
+        h = checked(h, s[i]);
+        i += 1;
+    }
+    h
 }

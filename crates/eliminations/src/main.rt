@@ -1,24 +1,6 @@
 // Reads sheets from standard input, each its length in four bytes and then its bytes, and prints a line for each: answer, verdict, place, length,
 // and the result in hex where it has at most 600 bytes, else the word fnv and the checksum of its bytes (FNV-1a, 64 bits).
 
-// One byte more of the checksum: the multiplication by 2^40 + 435 wraps.
-fn checked(h: u64, b: u8) -> u64 {
-    let x = h ^ (b as u64);
-    let low = (x % 4294967296) * 435;
-    let high = (x / 4294967296 % 4294967296) * 435;
-    std::num::wrapping_add_u64(x << 40, std::num::wrapping_add_u64(low, high << 32))
-}
-
-fn checksum(s: &[u8]) -> u64 {
-    let mut h: u64 = 14695981039346656037;
-    let mut i = 0;
-    while i < s.len() {
-        h = checked(h, s[i]);
-        i += 1;
-    }
-    h
-}
-
 // A byte in two digits.
 fn digits(b: u8) {
     io::print_hex(1, b as u64, 2);
@@ -43,7 +25,7 @@ fn bytes(s: &[u8]) {
         return;
     }
     io::write_all(1, b" fnv ");
-    io::print_decimal(1, checksum(s));
+    io::print_decimal(1, cases::checksum(s));
 }
 
 fn part(s: &[u8], n: usize) {

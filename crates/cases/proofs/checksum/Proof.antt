@@ -2,8 +2,8 @@
 use Prim.Native.Nat.{_-_, _≤_}
 use borrow.Author.Needs.{needs}
 use lib.ListN.{length}
-use Rattle.eliminations.proofs.checksum.Statement.{statement}
-use Rattle.eliminations.proofs.checksum.Tie as tie
+use Rattle.cases.proofs.checksum.Statement.{statement}
+use Rattle.cases.proofs.checksum.Tie as tie
 
 abbrev Inv-loop : tie.InvT-loop
 Inv-loop s h₀ i₀ h i = i ≤ length s
