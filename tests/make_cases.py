@@ -4,9 +4,10 @@
 Run:
     cargo build --release --offline --manifest-path tests/second/Cargo.toml
     python3 tests/make_cases.py
-A case is four bytes of length, little-endian, and then the sheet's bytes. The output has a line a case, six
-numbers: number and place under the sheet's limits (4,096 bytes, 16 levels), number and place under the look's
-(65,536 bytes, 17 levels), and the look's offset and length. Running it again changes nothing.
+A case is four bytes of length, little-endian, and then the sheet's bytes. The output has a line a case: number and
+place under the sheet's limits (4,096 bytes, 16 levels), number and place under the look's (65,536 bytes, 17 levels),
+the look's offset and length, then the length of its part and the 64-bit FNV-1a checksum of the part's bytes; nothing
+follows the length 0. Running it again changes nothing.
 """
 
 import collections
@@ -164,6 +165,11 @@ def random_damage(dice, count):
     return cases
 
 
+def quantifiers(sheet):
+    """How many a sound sheet has."""
+    return sum(sheet[at + 2] in (7, 8) for at, _ in records(sheet))
+
+
 def main():
     cases = [sheet for _, _, sheet, _, _ in SAMPLES]
     for sheet in list(cases):
@@ -185,7 +191,10 @@ def main():
     for name, column in (("sheet", 0), ("look", 2)):
         counts = collections.Counter(int(line.split()[column]) for line in lines)
         print(f"numbers under the {name}'s limits:", dict(sorted(counts.items())))
-    print("looks that are not empty:", sum(line.split()[5] != "0" for line in lines))
+    looks = [case for case, line in zip(cases, lines) if line.split()[5] != "0"]
+    several = sum(quantifiers(case) > 1 for case in looks)
+    assert several > 100, several
+    print(f"looks that are not empty: {len(looks)}, past an earlier quantifier: {several}")
 
 
 if __name__ == "__main__":

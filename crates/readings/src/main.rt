@@ -1,5 +1,16 @@
 // Reads cases from standard input, each its length in four bytes and then its bytes, and prints a line for each: number and place under the
-// sheet's limits, number and place under the look's, and where the look's part begins and how long it is.
+// sheet's limits, number and place under the look's, where the look's part begins and how long it is; then from the part itself its length and,
+// where it is not empty, the checksum of its bytes (FNV-1a, 64 bits).
+
+// The part that the look gives back.
+fn body(s: &[u8]) {
+    cases::show(s.len(), b"");
+    if s.len() == 0 {
+        return;
+    }
+    io::write_all(1, b" ");
+    io::print_decimal(1, cases::checksum(s));
+}
 
 fn line(s: &[u8]) {
     let sheet = reading::read(s, reading::Limit::Sheet);
@@ -10,7 +21,9 @@ fn line(s: &[u8]) {
     cases::show(result.place, b" ");
     let part = reading::look_part(s);
     cases::show(part.at, b" ");
-    cases::show(part.length, b"\n");
+    cases::show(part.length, b" ");
+    body(reading::look(s));
+    io::write_all(1, b"\n");
 }
 
 // A line for the first n bytes; false where there are not so many.

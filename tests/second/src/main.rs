@@ -5,7 +5,7 @@
 //!     second read BYTES LEVELS < SHEET   number place
 //!     second look < SHEET                at length
 //!     second test P0,..,P7,Q < SHEET     number verdict place
-//!     second cases readings FILE         a line a case: read 4096 16, read 65536 17, look
+//!     second cases readings FILE         a line a case: read 4096 16, read 65536 17, look, then the body's length and checksum
 //!     second cases eliminations FILE     a line a case: verdict, then the result in hex or its checksum
 //!     second cases tests FILE            a line a case: test
 //!
@@ -110,7 +110,13 @@ fn readings_line(sheet: &[u8]) -> String {
     let (number, place) = read(sheet, SHEET_BYTES, SHEET_LEVELS);
     let (look_number, look_place) = read(sheet, LOOK_BYTES, LOOK_LEVELS);
     let (at, length) = look(sheet);
-    format!("{number} {place} {look_number} {look_place} {at} {length}")
+    let line = format!("{number} {place} {look_number} {look_place} {at} {length}");
+    let body = &sheet[at..at + length];
+    if body.is_empty() {
+        format!("{line} 0")
+    } else {
+        format!("{line} {} {}", body.len(), checksum(body))
+    }
 }
 
 fn elimination_line(sheet: &[u8]) -> String {
