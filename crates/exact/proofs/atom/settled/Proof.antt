@@ -52,7 +52,10 @@ slice-aggregate-within-all : tie.Need-slice-aggregate-within-all
 slice-aggregate-within-all c = search needs
 
 within-all-requires : tie.Need-within-all-requires
-within-all-requires c κs = subst (Each 9223372036854775807) (sym (c .before .before .reduce .ensures)) (each-reduced (c .before .before .before .before .before .before .before .pre))
+within-all-requires c κs =
+    let r = c .before .before in
+    let e = subst (Each 9223372036854775807) (sym (r .reduce .ensures)) (each-reduced (r .before .before .before .before .before .pre)) in
+    search (needs, e)
 
 returns-2 : tie.Need-returns-2
 returns-2 c =
