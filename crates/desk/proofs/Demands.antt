@@ -12,7 +12,7 @@ use lib.Signed.{_<ℤ_}
 use Rattle.reading.specs.Limits.{sheetLevels, resultBytes, resultLevels}
 use Rattle.reading.specs.Bytes.{Bytes}
 use Rattle.reading.specs.Formula.{Formula, encode, Fits, Free}
-use Rattle.reading.specs.Quantifiers.{QuantifierAt}
+use Rattle.reading.specs.Quantifiers.{AtQuantifier}
 use Rattle.reading.specs.declared.Answer.{Answer}
 use Rattle.reading.specs.declared.Part as Reading
 use Rattle.reading.proofs.Trees as Trees
@@ -50,10 +50,6 @@ abbrev partReply : Reading.Part → Part
 partReply o = record { at = o .at; length = o .length }
 
 -- ==== Demand 1: a result, or a numbered refusal and its place; and the rules fix what is in every buffer afterwards
-
--- a sheet's formula of at most d levels has a quantifier at the place p
-abbrev pub AtQuantifier : ℕ → List ℕ → ℕ → Type 0
-AtQuantifier d sheet p = (f : Formula) × Fits d f × (sheet ≡ encode f) × QuantifierAt p f
 
 -- vb_eliminate: the numbers 0 to 12; the place lies in the sheet, and that of 10 to 12 is a quantifier of its formula, or for 12 the sheet's length;
 -- verdict 0, 1 or 2 for a result of at most 65,536 bytes, 3 and length 0 for a refusal. 1 to 9 change neither buffer; 10 to 12 leave zeros in the first

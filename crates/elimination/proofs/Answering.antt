@@ -18,7 +18,7 @@ use Rattle.reading.specs.Formula.{Formula, encode, Fits, Free}
 use Rattle.reading.specs.Records.{pick}
 use Rattle.reading.specs.Reading.{good, formulaIn}
 use Rattle.reading.specs.Answers.{reading}
-use Rattle.reading.specs.Quantifiers.{Quantifier, nothing, at, firstIn, QuantifierAt}
+use Rattle.reading.specs.Quantifiers.{Quantifier, nothing, at, firstIn, QuantifierAt, AtQuantifier}
 use Rattle.reading.specs.declared.Reply.{Reply}
 use Rattle.reading.specs.declared.Reply.the-variants.{Done, Refused}
 use Rattle.reading.proofs.Laws.{reads}
@@ -156,10 +156,6 @@ pub eliminate-place : (sheet out work : List ℕ) → Bytes sheet → eliminate 
 eliminate-place sheet out work ok =
     eliminate-ends (λ (r : Result). r .place ≤ length sheet) sheet out work ok (omega arith) (λ n p l h k. k)
     (λ a b f w e n p h. omega (arith, quantifier-inside p f (h .stands), ap length e)) (λ a b. omega arith) (λ a b f w e x k. omega arith)
-
--- the sheet's formula has a quantifier at the place
-abbrev pub AtQuantifier : ℕ → List ℕ → ℕ → Type 0
-AtQuantifier d s p = (f : Formula) × Fits d f × (s ≡ encode f) × QuantifierAt p f
 
 pub eliminate-quantifier : (sheet out work : List ℕ) → Bytes sheet → 10 ≤ eliminate sheet out work .number
     → AtQuantifier sheetLevels sheet (eliminate sheet out work .place) ⊎ ((eliminate sheet out work .number ≡ 12) × (eliminate sheet out work .place ≡ length sheet))

@@ -7,7 +7,7 @@ use mathlib.Core.List.{List}
 use lib.ListN.{length, take, drop}
 use lib.Dec.{ltb, leb}
 use Rattle.reading.specs.Limits.{resultBytes, resultLevels}
-use Rattle.reading.specs.Formula.{Formula, Formulas, atom, not, list, quant, window, none, more, encode}
+use Rattle.reading.specs.Formula.{Formula, Formulas, atom, not, list, quant, window, none, more, encode, Fits}
 use Rattle.reading.specs.Records.{pick}
 use Rattle.reading.specs.Reading.{Read, good, fault, formulaIn}
 use Rattle.reading.specs.Answers.{reading}
@@ -59,6 +59,10 @@ abbrev mutual
   pub QuantifierAtAny : ℕ → Formulas → Type 0
   QuantifierAtAny p none = ⊥
   QuantifierAtAny p (more f fs) = QuantifierAt p f ⊎ ((length (encode f) ≤ p) × QuantifierAtAny (p - length (encode f)) fs)
+
+-- s is the bytes of a formula of at most d levels that has a quantifier at p
+abbrev pub AtQuantifier : ℕ → List ℕ → ℕ → Type 0
+AtQuantifier d s p = (f : Formula) × Fits d f × (s ≡ encode f) × QuantifierAt p f
 
 -- what the code answers: the offset of the record
 abbrev pub foundOf : Quantifier → Found
