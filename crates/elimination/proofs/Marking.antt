@@ -1,35 +1,34 @@
 -- Boundary terms: each atom of the pushed body in which x occurs has a gathered term that marks it, so that the atom's sign at a value of x is that of
--- its coefficient times the value's side of the term. Terms are gathered before pushing, and pushing turns both signs. Assumes nothing.
-use mathlib.Core.Path.{_≡_, refl, sym, _∙_, ap, ap₂, subst}
+-- its coefficient times the value's side of the term. Terms are gathered before pushing, and the pushed body has the same. Assumes nothing.
+use mathlib.Core.Path.{_≡_, refl, sym, _∙_, ap, subst}
 use mathlib.Core.Logic.{_⊎_, inl, inr}
-use mathlib.Core.Bool.{Bool, true, false, cond}
+use mathlib.Core.Bool.{Bool, true, false}
 use mathlib.Core.Bool as Bool
 use mathlib.Core.List.{List, [], _∷_}
 use Prim.Native.Nat.{ℕ, zero, suc, _<_}
 use native.Mathlib.Omega.{arith}
 use lib.Dec.{T, eqb, leb·suc-zero, lit<}
-use lib.IntN.{ℤ, pos, negsuc, negℤ, natAbs}
-use lib.ListN.{set, replicate, length-set, getD-replicate}
+use lib.IntN.{ℤ, pos, negsuc, natAbs}
 use lib.Signed.{ltZ}
-use borrow.Author.Tests.{eqb-true, eqb-false, ne-eqb}
-use Rattle.reading.specs.Formula.{Comparison, less, atmost, equal, Formula, Formulas, atom, not, list, quant, window, none, more, Free, AllFree}
+use borrow.Author.Tests.{eqb-true}
+use Rattle.reading.specs.Formula.{Formula, Formulas, atom, not, list, quant, window, none, more, Free}
 use Rattle.reading.specs.Records.{pick}
-use Rattle.exact.specs.Numbers.{at, tab, isZero, sameRow, minus, single}
+use Rattle.exact.specs.Numbers.{at, tab, isZero, sameRow}
 use Rattle.exact.specs.Terms.{leftAt, turned, termAt, termOf, boundOf}
 use Rattle.exact.proofs.Sign.{zero-of-abs}
-use Rattle.exact.proofs.Rows.{at-tab, at-set, at-single, single-here, single-else, same-is}
+use Rattle.exact.proofs.Rows.{at-tab, same-is}
 use Rattle.exact.proofs.Terms.{term-low, term-last}
-use Rattle.elimination.specs.Pushing.{flip, pushAtom, pushWindow, push, pushs}
+use Rattle.elimination.specs.Pushing.{push}
 use Rattle.elimination.specs.Points.{insert, gather, gatherAll, terms}
 use Rattle.elimination.specs.Meaning.{Fraction}
-use Rattle.elimination.proofs.Sealed.{_⊕_, _⊗_, ⊖, _⊝_, O, ring, ⊖-O, ⊖-⊖, one-⊗, ⊕-idl, O-⊗}
-use Rattle.elimination.proofs.Signs as Signs
-use Rattle.elimination.proofs.Signs.{Sign, nil, plus, sgn, turn, turn-turn, smul, sgn-⊖, sgn-⊗, sgn-up}
-use Rattle.elimination.proofs.Sums.{dot, upd, left, dot-upd, dot-same, dot-times, dot-pair, reduced-multiple}
+use Rattle.elimination.proofs.Sealed.{_⊕_, _⊗_, ⊖, _⊝_, O, ring, one-⊗}
+use Rattle.elimination.proofs.Signs.{plus, sgn, smul, sgn-⊗, sgn-up}
+use Rattle.elimination.proofs.Sums.{dot, upd, left, dot-upd, dot-same, dot-times, reduced-multiple}
 use Rattle.elimination.proofs.Line.{Mem}
 use Rattle.elimination.proofs.Fractions.{cmp, Ok, ev, cmp-ok, cmp-multiple, ok-multiple}
-use Rattle.elimination.proofs.Truth.{Rows, AllRows, rows-more}
-use Rattle.elimination.proofs.Pushed.{minus-one, at-minus, sgn-minus}
+use Rattle.elimination.proofs.Truth.{Rows, AllRows, Flat, AllFlat, rows-more}
+use Rattle.elimination.proofs.Pushed.{minus-one, push-flat}
+use Rattle.elimination.proofs.PushedTerms.{terms-pushed}
 
 -- ---- a term marks a row
 
@@ -52,16 +51,6 @@ marks-by x c w t h o e p =
     ap sgn (dot-upd x (p .top) (p .bottom) c w (omega arith)) ∙ sym (sgn-up (at t 9) _ o)
     ∙ ap sgn (marks-ring (c x) (p .top) (p .bottom) (dot (left c x) w) (at t 9) (dot (at t) w) e)
     ∙ sgn-⊗ (c x) _ ∙ ap (smul (sgn (c x))) (sym (cmp-ok w t p o))
-
-smul-turn : (s t : Sign) → smul (turn s) t ≡ turn (smul s t)
-smul-turn Signs.minus t = sym (turn-turn t)
-smul-turn nil t = refl
-smul-turn plus t = refl
-
-marks-minus : (x : ℕ) (ns : List ℤ) (w : ℕ → ℤ) (t : List ℤ) → Marks x (at ns) w t → Marks x (at (minus ns)) w t
-marks-minus x ns w t m p =
-    sgn-minus ns (upd x (p .top) (p .bottom) w) ∙ ap turn (m p) ∙ sym (smul-turn (sgn (at ns x)) _)
-    ∙ ap (λ (s : Sign). smul s (cmp p (ev w t))) (sym (ap sgn (at-minus ns x) ∙ sgn-⊖ (at ns x)))
 
 -- ---- the term of an atom
 
@@ -124,59 +113,10 @@ term-marks ns x w l h p =
     marks-by x (at ns) w (raw ns x) l (raw-ok ns x h) (raw-cross ns x w) p
     ∙ ap (smul (sgn (at ns x))) (cmp-multiple w (termOf ns x) (raw ns x) p (reduced-multiple (raw ns x)) (raw-ok ns x h))
 
--- ---- the terms of a WINDOW
-
-at-bound : (c : ℤ) (i : ℕ) → i < 10 → at (boundOf c) i ≡ cond (eqb i 9) (pos 1) (cond (eqb i 8) c O)
-unfolding boundOf
-at-bound c i h =
-    at-set (set (replicate 10 O) 8 c) 9 (pos 1) i (rw (length-set (replicate 10 O) 8 c) h)
-    ∙ ap (cond (eqb i 9) (pos 1)) (at-set (replicate 10 O) 8 c i h ∙ ap (cond (eqb i 8) c) (getD-replicate 10 i O O h))
-
-bound-last : (c : ℤ) → at (boundOf c) 9 ≡ pos 1
-bound-last c = at-bound c 9 (lit< tt)
-
-pub bound-ok : (c : ℤ) → Ok (boundOf c)
-unfolding sgn
-bound-ok c = ap sgn (bound-last c)
-
-cond-same : (b : Bool) (z : ℤ) → cond b z z ≡ z
-cond-same true z = refl
-cond-same false z = refl
-
-constant : (v : ℕ) (c : ℤ) (w : ℕ → ℤ) → v < 8 → (d : ℕ → ℤ) → ((i : ℕ) → i < 9 → d i ≡ cond (eqb i 8) c O) → dot d w ≡ c ⊗ w 8
-constant v c w h d e =
-    dot-same d (λ i. cond (eqb i 8) c (cond (eqb i v) O O)) w (λ i k. e i k ∙ ap (cond (eqb i 8) c) (sym (cond-same (eqb i v) O)))
-    ∙ dot-pair v O c w h ∙ ap (λ (z : ℤ). z ⊕ c ⊗ w 8) (O-⊗ (w v)) ∙ ⊕-idl _
-
-dot-bound : (v : ℕ) (c : ℤ) (w : ℕ → ℤ) → v < 8 → dot (at (boundOf c)) w ≡ c ⊗ w 8
-dot-bound v c w h = constant v c w h (at (boundOf c)) (λ i k. at-bound c i (omega arith) ∙ ap (λ (b : Bool). cond b (pos 1) (cond (eqb i 8) c O)) (ne-eqb i 9 (λ e. omega arith)))
-
-left-cond : (b d : Bool) (a c : ℤ) → (d ≡ true → b ≡ false) → cond b O (cond d c (cond b a O)) ≡ cond d c O
-left-cond true true a c h = absurd (T-clash (h refl))
-  where
-    T-clash : true ≡ false → ⊥
-    T-clash e = subst T e tt
-left-cond true false a c h = refl
-left-cond false true a c h = refl
-left-cond false false a c h = refl
-
-left-single : (v : ℕ) (a c : ℤ) (w : ℕ → ℤ) → v < 8 → dot (left (at (single v a c)) v) w ≡ c ⊗ w 8
-left-single v a c w h = constant v c w h (left (at (single v a c)) v) (λ i k.
-    ap (cond (eqb i v) O) (at-single v a c i k)
-    ∙ left-cond (eqb i v) (eqb i 8) a c (λ e. ne-eqb i v (λ f. let g = eqb-true i 8 e in omega arith)))
-
-bound-ring : (a k b q : ℤ) → a ⊗ k ≡ ⊖ b → a ⊗ (k ⊗ q) ≡ ⊖ (pos 1 ⊗ (b ⊗ q))
-bound-ring a k b q h = first ∙ ap (λ (z : ℤ). z ⊗ q) h ∙ second
-  where
-    first : a ⊗ (k ⊗ q) ≡ (a ⊗ k) ⊗ q
-    first = simp ring
-
-    second : ⊖ b ⊗ q ≡ ⊖ (pos 1 ⊗ (b ⊗ q))
-    second = simp ring
-
-bound-marks : (v : ℕ) (a b k : ℤ) (w : ℕ → ℤ) → v < 8 → a ⊗ k ≡ ⊖ b → Marks v (at (single v a b)) w (boundOf k)
-bound-marks v a b k w h e = marks-by v (at (single v a b)) w (boundOf k) h (bound-ok k)
-    (ap₂ _⊗_ (single-here v a b h) (dot-bound v k w h) ∙ bound-ring a k b (w 8) e ∙ ap ⊖ (ap₂ _⊗_ (sym (bound-last k)) (sym (left-single v a b w h))))
+-- the terms of a WINDOW
+bound-ok : (c : ℤ) → Ok (boundOf c)
+unfolding boundOf sgn
+bound-ok c = refl
 
 -- ---- inserting
 
@@ -272,62 +212,33 @@ abbrev pub Marked : ℕ → List (List ℤ) → (ℕ → ℤ) → List ℤ → T
 Marked x ts w ns = (at ns x ≡ O) ⊎ ((b : List ℤ) × Mem b ts × Marks x (at ns) w b)
 
 module _ (x : ℕ) (low : x < 8) (w : ℕ → ℤ) where
-  marked-minus : (ts : List (List ℤ)) (ns : List ℤ) → Marked x ts w ns → Marked x ts w (minus ns)
-  marked-minus ts ns (inl e) = inl (at-minus ns x ∙ ap ⊖ e ∙ ⊖-O)
-  marked-minus ts ns (inr r) = inr (r .0, r .1, marks-minus x ns w (r .0) (r .2))
-
-  pushAtom-marked : (neg : Bool) (c : Comparison) (ns : List ℤ) (ts : List (List ℤ)) → Marked x ts w ns → Rows (Marked x ts w) (pushAtom neg c ns)
-  pushAtom-marked false c ns ts m = m
-  pushAtom-marked true less ns ts m = marked-minus ts ns m
-  pushAtom-marked true atmost ns ts m = marked-minus ts ns m
-  pushAtom-marked true equal ns ts m = (m, (marked-minus ts ns m, tt))
-
   atom-marked : (ns : List ℤ) (z : Bool) (ts : List (List ℤ)) → isZero (at ns x) ≡ z → Marked x (pick z ts (insert (termOf ns x) ts)) w ns
   atom-marked ns true ts e = inl (zero-of-abs (at ns x) (eqb-true (natAbs (at ns x)) 0 e))
   atom-marked ns false ts e = inr (termOf ns x, insert-has (termOf ns x) ts, term-marks ns x w low e)
-
-  -- a WINDOW's row, by the term of lo or hi
-  row-marked : (v : ℕ) (z : Bool) (a b k : ℤ) (ts us : List (List ℤ)) → eqb v x ≡ z → Mem (boundOf k) us → a ⊗ k ≡ ⊖ b → Marked x (pick z us ts) w (single v a b)
-  row-marked v true a b k ts us e m h =
-      inr (boundOf k, m, subst (λ (y : ℕ). Marks y (at (single v a b)) w (boundOf k)) (eqb-true v x e) (bound-marks v a b k w (let p = eqb-true v x e in omega arith) h))
-  row-marked v false a b k ts us e m h = inl (single-else x v a b low (eqb-false v x e))
-
-  pushWindow-marked : (neg : Bool) (v : ℕ) (lo hi : ℤ) (z : Bool) (ts us : List (List ℤ)) → eqb v x ≡ z → Mem (boundOf lo) us → Mem (boundOf hi) us
-      → Rows (Marked x (pick z us ts) w) (pushWindow neg v lo hi)
-  unfolding ⊖
-  pushWindow-marked false v lo hi z ts us e l h = (
-    row-marked v z (negsuc 0) lo lo ts us e l (minus-one lo),
-    (row-marked v z (pos 1) (negℤ hi) hi ts us e h (one-⊗ hi ∙ sym (⊖-⊖ hi)), tt),
-  )
-  pushWindow-marked true v lo hi z ts us e l h = (
-    row-marked v z (pos 1) (negℤ lo) lo ts us e l (one-⊗ lo ∙ sym (⊖-⊖ lo)),
-    (row-marked v z (negsuc 0) hi hi ts us e h (minus-one hi), tt),
-  )
 
   marked-more : (ts us : List (List ℤ)) → ((b : List ℤ) → Mem b ts → Mem b us) → (ns : List ℤ) → Marked x ts w ns → Marked x us w ns
   marked-more ts us h ns (inl e) = inl e
   marked-more ts us h ns (inr r) = inr (r .0, h (r .0) (r .1), r .2)
 
   mutual
-    unfolding gather push
+    unfolding gather
 
-    gather-marked : (neg : Bool) (f : Formula) (ts : List (List ℤ)) → Free f → Rows (Marked x (gather x f ts) w) (push neg f)
-    gather-marked neg (atom c ns) ts q = pushAtom-marked neg c ns (pick (isZero (at ns x)) ts (insert (termOf ns x) ts)) (atom-marked ns (isZero (at ns x)) ts refl)
-    gather-marked neg (not f) ts q = gather-marked (flip neg) f ts q
-    gather-marked neg (list b fs) ts q = gatherAll-marked neg fs ts q
-    gather-marked neg (quant b v f) ts q = absurd q
-    gather-marked neg (window v lo hi) ts q =
-        pushWindow-marked neg v lo hi (eqb v x) ts (insert (boundOf hi) (insert (boundOf lo) ts)) refl
-        (insert-keeps (boundOf hi) (insert (boundOf lo) ts) (boundOf lo) (insert-has (boundOf lo) ts)) (insert-has (boundOf hi) (insert (boundOf lo) ts))
+    gather-marked : (f : Formula) (ts : List (List ℤ)) → Flat f → Rows (Marked x (gather x f ts) w) f
+    gather-marked (atom c ns) ts q = atom-marked ns (isZero (at ns x)) ts refl
+    gather-marked (not f) ts q = absurd q
+    gather-marked (list b fs) ts q = gatherAll-marked fs ts q
+    gather-marked (quant b v f) ts q = absurd q
+    gather-marked (window v lo hi) ts q = absurd q
 
-    gatherAll-marked : (neg : Bool) (fs : Formulas) (ts : List (List ℤ)) → AllFree fs → AllRows (Marked x (gatherAll x fs ts) w) (pushs neg fs)
-    gatherAll-marked neg none ts q = tt
-    gatherAll-marked neg (more f fs) ts q = (
+    gatherAll-marked : (fs : Formulas) (ts : List (List ℤ)) → AllFlat fs → AllRows (Marked x (gatherAll x fs ts) w) fs
+    gatherAll-marked none ts q = tt
+    gatherAll-marked (more f fs) ts q = (
       rows-more (Marked x (gather x f ts) w) (Marked x (gatherAll x fs (gather x f ts)) w) (marked-more (gather x f ts) (gatherAll x fs (gather x f ts)) (gatherAll-keeps x low fs (gather x f ts)))
-          (push neg f) (gather-marked neg f ts (q .0)),
-      gatherAll-marked neg fs (gather x f ts) (q .1),
+          f (gather-marked f ts (q .0)),
+      gatherAll-marked fs (gather x f ts) (q .1),
     )
 
+  -- the terms of the pushed body are those of the body
   pub terms-marked : (f : Formula) → Free f → Rows (Marked x (terms x f) w) (push false f)
   unfolding terms
-  terms-marked f q = gather-marked false f [] q
+  terms-marked f q = subst (λ (ts : List (List ℤ)). Rows (Marked x ts w) (push false f)) (terms-pushed x low false f) (gather-marked (push false f) [] (push-flat false f q))

@@ -22,11 +22,11 @@ pub minus-one : (x : ℤ) → negsuc 0 ⊗ x ≡ ⊖ x
 unfolding ⊖
 minus-one x = ⊖-⊗ (pos 1) x ∙ ap ⊖ (one-⊗ x)
 
-pub at-minus : (ns : List ℤ) (i : ℕ) → at (minus ns) i ≡ ⊖ (at ns i)
+at-minus : (ns : List ℤ) (i : ℕ) → at (minus ns) i ≡ ⊖ (at ns i)
 unfolding ⊖
 at-minus ns i = Rows.at-minus ns i
 
-pub sgn-minus : (ns : List ℤ) (w : ℕ → ℤ) → sgn (dot (at (minus ns)) w) ≡ turn (sgn (dot (at ns) w))
+sgn-minus : (ns : List ℤ) (w : ℕ → ℤ) → sgn (dot (at (minus ns)) w) ≡ turn (sgn (dot (at ns) w))
 sgn-minus ns w =
     ap sgn (dot-same (at (minus ns)) (λ i. negsuc 0 ⊗ at ns i) w (λ i h. at-minus ns i ∙ sym (minus-one (at ns i))) ∙ dot-times (negsuc 0) (at ns) w ∙ minus-one _)
     ∙ sgn-⊖ (dot (at ns) w)

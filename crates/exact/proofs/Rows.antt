@@ -277,7 +277,7 @@ length-single v a c = length-set (set (replicate 9 (pos 0)) v a) 8 c ∙ length-
 
 -- ---- one number set, and the nine of `single`
 
-pub at-set : (l : List ℤ) (i : ℕ) (a : ℤ) (j : ℕ) → j < length l → at (set l i a) j ≡ cond (eqb j i) a (at l j)
+at-set : (l : List ℤ) (i : ℕ) (a : ℤ) (j : ℕ) → j < length l → at (set l i a) j ≡ cond (eqb j i) a (at l j)
 at-set l i a j h = go (eqb j i) refl
   where
     go : (b : Bool) → eqb j i ≡ b → at (set l i a) j ≡ cond b a (at l j)
