@@ -1,5 +1,5 @@
 #!/usr/bin/env python3
-"""Writes the input of the gate's program `readings`, sound and damaged sheets for the reading call and the look, and its output.
+"""Writes the input of the gate's program `cases_reading`, sound and damaged sheets for the reading call and the look, and its output.
 
 Run:
     cargo build --release --offline --manifest-path tests/second/Cargo.toml

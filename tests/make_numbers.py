@@ -1,5 +1,5 @@
 #!/usr/bin/env python3
-"""Writes crates/numbers/stdin and crates/numbers/stdout: numeric cases, and what they come out as, computed here with whole numbers of any
+"""Writes crates/cases_exact/stdin and crates/cases_exact/stdout: numeric cases, and what they come out as, computed here with whole numbers of any
 size and math.gcd, from the paper and not from the code. Run it in the repository's root; it is reproducible."""
 import math
 import random
@@ -174,7 +174,7 @@ for _ in range(40):
     mid_case(term(), term())
     atom_case(RNG.randint(1, 3), RNG.choice([0, 1, 2, 2, 2, 3]), RNG.randint(0, 7), row(RNG.choice([9, 1000, M])), term())
 
-with open("crates/numbers/stdin", "w") as f:
+with open("crates/cases_exact/stdin", "w") as f:
     f.write("\n".join(cases) + "\n")
-with open("crates/numbers/stdout", "w") as f:
+with open("crates/cases_exact/stdout", "w") as f:
     f.write("\n".join(answers) + "\n")

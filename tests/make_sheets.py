@@ -6,10 +6,10 @@ Run:
     python3 tests/make_sheets.py                        the stored sets; running it again changes nothing
     python3 tests/make_sheets.py random COUNT SEED FILE   COUNT further random sheets for the elimination
 
-The input of the gate's program `eliminations`: four bytes of length, little-endian, then the sheet; again for each case. Its output has
+The input of the gate's program `cases_elimination`: four bytes of length, little-endian, then the sheet; again for each case. Its output has
 a line a case: answer verdict place length, then for a result of 1 to 600 bytes a blank and the bytes in hex, for a longer one
 ` fnv ` and the 64-bit FNV-1a checksum of its bytes in decimal; nothing follows the length 0.
-The input of `trials`: the same, and after each sheet nine numbers of eight bytes, signed, little-endian: eight values and the
+The input of `cases_test`: the same, and after each sheet nine numbers of eight bytes, signed, little-endian: eight values and the
 denominator. Its output has a line a case: number verdict place.
 """
 
@@ -196,7 +196,7 @@ def eliminations():
                                        ("10", "3"): 8, ("11", "3"): 22, ("12", "3"): 12})
     cases = list(dict.fromkeys(cases))
     lines = write("eliminations", container(cases), len(cases))
-    size = sum((PROGRAMS / "eliminations" / file).stat().st_size for file in ("stdin", "stdout"))
+    size = sum((PROGRAMS / "cases_elimination" / file).stat().st_size for file in ("stdin", "stdout"))
     assert size < 600_000, size
     assert all(len(case) <= SHEET_BYTES for case, line in zip(cases, lines) if line[0:2] == "0 ")
 

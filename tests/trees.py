@@ -137,7 +137,7 @@ def container(cases):
 
 def stored(operation, data):
     """Stores cases as the input of the gate's program for that operation, and what the second program prints for them as its output."""
-    program = PROGRAMS / {"tests": "trials"}.get(operation, operation)
+    program = PROGRAMS / {"readings": "cases_reading", "eliminations": "cases_elimination", "tests": "cases_test"}[operation]
     (program / "stdin").write_bytes(data)
     lines = second_lines(operation, program / "stdin")
     (program / "stdout").write_text("".join(line + "\n" for line in lines))

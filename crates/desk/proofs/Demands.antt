@@ -20,16 +20,15 @@ use Rattle.reading.proofs.Refusals as Refusals
 use Rattle.reading.proofs.Whole as Whole
 use Rattle.reading.proofs.Looking as Looking
 use Rattle.exact.specs.Numbers.{at}
-use Rattle.elimination.specs.Eliminate.{Result, cleared, zeros, resultOf}
-use Rattle.elimination.specs.Testing.{trueAt}
-use Rattle.elimination.specs.Meaning.{Values, fractions, Equal, sumOf, Means}
-use Rattle.elimination.specs.Variables.{Closed}
-use Rattle.elimination.specs.declared.Tested as Elimination
-use Rattle.elimination.proofs.Answering as Answering
-use Rattle.elimination.proofs.Demand3 as Meanings
-use Rattle.elimination.proofs.Closed as Closing
-use Rattle.elimination.proofs.Valuing as Valuing
-use Rattle.elimination.proofs.Truth as Truth
+use Rattle.rules.specs.Eliminate.{Result, cleared, zeros, resultOf}
+use Rattle.rules.specs.Test.{trueAt, Trial}
+use Rattle.meaning.specs.Meaning.{Values, fractions, Equal, sumOf, Means}
+use Rattle.rules.specs.Variables.{Closed}
+use Rattle.rules.proofs.Answers as Answering
+use Rattle.meaning.proofs.Construction as Meanings
+use Rattle.meaning.proofs.Closed as Closing
+use Rattle.meaning.proofs.Values as Valuing
+use Rattle.meaning.proofs.Truth as Truth
 use Rattle.desk.specs.Promises.{Eliminates, TestsAt, ReadsAs, LooksAt}
 use Rattle.desk.specs.declared.Reply.{Reply}
 use Rattle.desk.specs.declared.Tested.{Tested}
@@ -40,7 +39,7 @@ use Rattle.desk.specs.declared.Part.{Part}
 abbrev reply : Result → Reply
 reply o = record { number = o .number; verdict = o .verdict; place = o .place; length = o .length }
 
-abbrev testReply : Elimination.Tested → Tested
+abbrev testReply : Trial → Tested
 testReply o = record { number = o .number; verdict = o .verdict; place = o .place }
 
 abbrev placeReply : Answer → Place
@@ -96,7 +95,7 @@ module _ (sheet : List ℕ) (ok : Bytes sheet) where
   })
 
   pub test-answers : (w : List ℤ) (t : Tested) → TestsAt sheet w t → TestAnswers sheet t
-  test-answers w t e = subst (λ (o : Elimination.Tested). TestAnswers sheet (testReply o)) (sym e) (record {
+  test-answers w t e = subst (λ (o : Trial). TestAnswers sheet (testReply o)) (sym e) (record {
     number = Answering.test-number sheet w ok;
     place = Answering.test-place sheet w ok;
     quantifier = Answering.test-quantifier sheet w ok;
@@ -168,7 +167,7 @@ module _ (f : Formula) (sheet out₀ work₀ out work : List ℕ) (r : Reply) (o
 
 -- the test: an accepted sheet is the bytes of a formula too
 pub a-tested-formula : (sheet : List ℕ) (w : List ℤ) (t : Tested) → Bytes sheet → TestsAt sheet w t → t .number ≡ 0 → (f : Formula) × Fits resultLevels f × (sheet ≡ encode f)
-a-tested-formula sheet w t ok e z = Answering.test-read sheet w ok (sym (ap (λ (o : Elimination.Tested). o .number) e) ∙ z)
+a-tested-formula sheet w t ok e z = Answering.test-read sheet w ok (sym (ap (λ (o : Trial). o .number) e) ∙ z)
 
 -- it has no quantifier, the denominator is above 0, and the verdict is 1 exactly where the formula holds at these fractions, 0 exactly where not
 pub record TestMeaning (f : Formula) (w : List ℤ) (verdict : ℕ) : Type 0 where
@@ -179,9 +178,9 @@ pub record TestMeaning (f : Formula) (w : List ℤ) (verdict : ℕ) : Type 0 whe
 
 pub test-meaning : (f : Formula) (sheet : List ℕ) (w : List ℤ) (t : Tested) → Bytes sheet → Fits resultLevels f → sheet ≡ encode f → TestsAt sheet w t → t .number ≡ 0 → TestMeaning f w (t .verdict)
 test-meaning f sheet w t ok fits is e z =
-    let d = Answering.test-done f sheet w ok fits is (sym (ap (λ (o : Elimination.Tested). o .number) e) ∙ z) in
-    let v = Meanings.verdict-says (Means f (fractions w (d .above))) (trueAt w f) (t .verdict) (ap (λ (o : Elimination.Tested). o .verdict) e ∙ d .truth) (Meanings.test-means f (Truth.fits-named resultLevels f fits) (d .free) w (d .above)) in
-    record { free = d .free; above = d .above; true-is = v .0; false-is = v .1 }
+    let d = Answering.test-done f sheet w ok fits is (sym (ap (λ (o : Trial). o .number) e) ∙ z) in
+    let v = Meanings.verdict-says (Means f (fractions w (d .bottom-above))) (trueAt w f) (t .verdict) (ap (λ (o : Trial). o .verdict) e ∙ d .verdict-is) (Meanings.test-means f (Truth.fits-named resultLevels f fits) (d .free) w (d .bottom-above)) in
+    record { free = d .free; above = d .bottom-above; true-is = v .0; false-is = v .1 }
 
 -- equal fractions give the same truth
 pub equal-fractions : (f : Formula) (d : ℕ) → Fits d f → (ρ σ : Values) → Equal ρ σ → Means f ρ ↔ Means f σ

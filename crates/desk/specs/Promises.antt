@@ -9,9 +9,8 @@ use Rattle.reading.specs.Answers.{reading, answerOf}
 use Rattle.reading.specs.Quantifiers.{lookPart}
 use Rattle.reading.specs.declared.Answer.{Answer}
 use Rattle.reading.specs.declared.Part as Reading
-use Rattle.elimination.specs.Eliminate.{Result, eliminate}
-use Rattle.elimination.specs.Testing.{tested}
-use Rattle.elimination.specs.declared.Tested as Elimination
+use Rattle.rules.specs.Eliminate.{Result, eliminate}
+use Rattle.rules.specs.Test.{tested, Trial}
 use Rattle.desk.specs.declared.Reply.{Reply}
 use Rattle.desk.specs.declared.Tested.{Tested}
 use Rattle.desk.specs.declared.Place.{Place}
@@ -27,7 +26,7 @@ Eliminates sheet out₀ work₀ r out work = gave r out work ≡ eliminate sheet
 
 -- ---- vb_test, at the eight values and the denominator w
 
-abbrev pub gaveTest : Tested → Elimination.Tested
+abbrev pub gaveTest : Tested → Trial
 gaveTest t = record { number = t .number; verdict = t .verdict; place = t .place }
 
 abbrev pub TestsAt : List ℕ → List ℤ → Tested → Type 0

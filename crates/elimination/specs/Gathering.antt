@@ -2,14 +2,14 @@
 -- over it ask for and promise. The terms themselves are those of `gather`.
 use Prim.Native.Nat.{ℕ, _+_, _*_, _≤_, _<_}
 use mathlib.Core.Path.{_≡_}
-use mathlib.Core.Bool.{Bool, true, false}
+use mathlib.Core.Bool.{Bool, true, false, cond}
 use mathlib.Core.List.{List, [], _∷_}
 use lib.Dec.{leb}
 use lib.ListN.{length, take, drop}
 use lib.IntN.{ℤ}
 use Rattle.reading.specs.Limits.{M, mostTerms, variables}
+use Rattle.reading.specs.AnswerNumbers.{done, manyTerms}
 use Rattle.reading.specs.Formula.{Free}
-use Rattle.reading.specs.Records.{pick}
 use Rattle.reading.specs.Reading.{treeOf, Begins}
 use Rattle.exact.specs.Numbers.{Each, tab, sameRow}
 use Rattle.elimination.specs.declared.Gathered.{Gathered}
@@ -31,33 +31,33 @@ pub record Table (ts : List ℤ) (n : ℕ) : Type 0 where
 -- whether t is among the terms
 unfoldable pub among : List ℤ → List (List ℤ) → Bool
 among t [] = false
-among t (u ∷ us) = pick (sameRow u t) true (among t us)
+among t (u ∷ us) = cond (sameRow u t) true (among t us)
 
 -- ---- the code's answer: the bytes of the formula and how many terms there are, or more than 64
 
 abbrev pub gatheredOf : ℕ → List (List ℤ) → Gathered
-gatheredOf used us = pick (leb (length us) mostTerms) (Fine used (length us)) Full
+gatheredOf used us = cond (leb (length us) mostTerms) (Fine used (length us)) Full
 
--- 01's number for each case: 10 is more than 64 boundary terms
+-- 01's number for each case
 abbrev pub gatheredNo : Gathered → ℕ
-gatheredNo (Fine used n) = 0
-gatheredNo Full = 10
+gatheredNo (Fine used n) = done
+gatheredNo Full = manyTerms
 
 abbrev pub fullOf : Gathered → Bool
 fullOf (Fine used n) = false
 fullOf Full = true
 
-abbrev pub usedOf : Gathered → ℕ
-usedOf (Fine used n) = used
-usedOf Full = 0
+abbrev pub gatheredUsed : Gathered → ℕ
+gatheredUsed (Fine used n) = used
+gatheredUsed Full = 0
 
 abbrev pub countOf : Gathered → ℕ
 countOf (Fine used n) = n
 countOf Full = 0
 
-abbrev pub afterOf : ℕ → Gathered → Gathered
-afterOf k (Fine used n) = Fine (k + used) n
-afterOf k Full = Full
+abbrev pub gatheredAfter : ℕ → Gathered → Gathered
+gatheredAfter k (Fine used n) = Fine (k + used) n
+gatheredAfter k Full = Full
 
 -- ---- what a call asks for, and what it leaves: the terms us in the table ts, unless there are too many
 

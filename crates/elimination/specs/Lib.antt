@@ -1,19 +1,11 @@
--- 01's definitions, in its order; then those that only the code's own contracts cite.
-pub mod Pushing
-pub mod Lists
-pub mod Copies
-pub mod Points
-pub mod Steps
-pub mod Eliminate
-pub mod Testing
-pub mod Meaning
-pub mod Variables
+-- What the contracts of the code cite, file by file as in src/.
 pub mod Writing
-pub mod Copying
 pub mod Listing
+pub mod Copying
 pub mod Gathering
-pub mod Stepping
 pub mod Trying
-pub mod Splicing
+pub mod Stepping
 pub mod Running
-pub mod Holding
+pub mod Finishing
+pub mod Eliminating
+pub mod Testing

@@ -1,22 +1,28 @@
--- What the code of a step and of the run asks for and promises: the formula that stands at the start of a buffer, before and after.
-use Prim.Native.Nat.{ℕ, zero, suc, _≤_}
+-- What the code of a step asks for and promises: the formula that stands at the start of a buffer, before and after; the replacement at the start of the
+-- output; and the splice, which puts it in place of the quantifier and moves the bytes after it.
+use Prim.Native.Nat.{ℕ, zero, suc, _≤_, _+_, _-_, _<_}
 use mathlib.Core.Path.{_≡_}
-use mathlib.Core.Bool.{Bool, false}
-use mathlib.Core.List.{List, [], _∷_}
+use mathlib.Core.Bool.{Bool, false, true, cond}
+use mathlib.Core.List.{List, _++_}
 use lib.ListN.{length, take, drop}
-use Rattle.reading.specs.Limits.{resultBytes}
-use Rattle.reading.specs.Formula.{Formula, encode}
+use Rattle.reading.specs.Limits.{resultBytes, mostTerms}
+use Rattle.reading.specs.Formula.{Formula, encode, Formulas, list, none}
 use Rattle.reading.specs.Reading.{treeOf, Exactly}
-use Rattle.reading.specs.Records.{pick}
 use Rattle.reading.specs.Quantifiers.{Quantifier, nothing, at, lastIn}
-use Rattle.exact.specs.Atoms.{Spot}
-use Rattle.elimination.specs.Points.{spotFits}
-use Rattle.elimination.specs.Copying.{Come, big, Tally, add, copied}
-use Rattle.elimination.specs.Steps.{step, refusal, Run, ran, halted}
+use Rattle.rules.specs.Points.{terms, points}
+use Rattle.rules.specs.Steps.{step, refusal, replacement, numbersFit}
 use Rattle.elimination.specs.declared.Stepped.{Stepped}
+use lib.Dec.{ltb}
+use Rattle.rules.specs.Pushing.{push}
+use Rattle.elimination.specs.declared.Copied.the-variants.{Big}
+use Rattle.elimination.specs.declared.Gathered.the-variants.{Full}
+use Rattle.elimination.specs.declared.Copies.{Copies}
+use Rattle.elimination.specs.declared.Made.{Made}
 use Rattle.elimination.specs.declared.Stepped.the-variants as Stepped
-use Rattle.elimination.specs.declared.Ran.{Ran}
-use Rattle.elimination.specs.declared.Ran.the-variants as Ran
+use Rattle.elimination.specs.declared.Made.the-variants as Made
+use Rattle.elimination.specs.Listing.{Come, closeOf, copiedNo, Space, truth, kept, big, going}
+use Rattle.elimination.specs.Gathering.{gatheredNo}
+use Rattle.elimination.specs.Trying.{Lists}
 
 -- the formula in the first n bytes of a buffer
 abbrev pub held : ℕ → List ℕ → Formula
@@ -27,19 +33,6 @@ pub record Stands (n : ℕ) (b : List ℕ) : Type 0 where
   pub exactly : Exactly (take n b) (held n b)
   pub few : n ≤ resultBytes
   pub long : resultBytes ≤ length b
-
--- ---- the copies at all points
-
--- the copy of a body at a spot, whose own numbers are judged first
-unfoldable pub tryAt : Spot → Formula → Come
-unfolding copied
-tryAt q f = pick (spotFits q) (copied false q f) big
-
--- the list of the copies after each of the spots
-unfoldable pub tallyAll : Bool → Tally → List Spot → Formula → Tally
-unfolding tryAt
-tallyAll all t [] f = t
-tallyAll all t (q ∷ qs) f = tallyAll all (add all t (tryAt q f)) qs f
 
 -- ---- a step
 
@@ -59,19 +52,55 @@ pub record Steps (f : Formula) (cur₀ cur work₀ work : List ℕ) (r : Stepped
   pub cur-rest : drop resultBytes cur ≡ drop resultBytes cur₀
   pub work-rest : drop resultBytes work ≡ drop resultBytes work₀
 
--- ---- a run
+-- ---- the replacement
 
-abbrev pub ranOf : Run → Ran
-ranOf (ran g) = Ran.Fine (length (encode g))
-ranOf (halted n p) = Ran.Refused n p
+-- how a list came out, as a formula: true and false are records too
+abbrev pub formulaFor : Come → Formula
+formulaFor (truth b) = list b none
+formulaFor (kept g) = g
+formulaFor big = list true none
 
--- where nothing was refused, the formula stands at the start of the buffer
-abbrev pub RanIn : Run → List ℕ → Type 0
-RanIn (ran g) cur = take (length (encode g)) cur ≡ encode g
-RanIn (halted n p) cur = Unit {0}
+-- o begins with the bytes of g, and r is how many they are; or both r and they are more than a result may have
+pub record Put (g : Formula) (o : List ℕ) (r : ℕ) : Type 0 where
+  pub short : length (encode g) ≤ resultBytes → (r ≡ length (encode g)) × (take r o ≡ encode g)
+  pub long : resultBytes < length (encode g) → resultBytes < r
 
-pub record Runs (o : Run) (cur₀ cur work₀ work : List ℕ) (r : Ran) : Type 0 where
-  pub answer : r ≡ ranOf o
-  pub bytes : RanIn o cur
+-- a list of copies, unless it is over, stands in an output of n bytes, which has room for a record
+pub record Closable (c : Copies) (n : ℕ) : Type 0 where
+  pub space : c .over ≡ false → Space (c .list) n
+  pub record-room : 6 ≤ n
+
+-- whatever members the list of copies has, the list rule makes the replacement of them
+abbrev pub Replaces : Copies → List ℕ → List ℕ → ℕ → Type 0
+Replaces c o o′ r = (all x : Bool) (gs : Formulas) (o₀ : List ℕ) → Lists all (going x gs) c o₀ o → Put (formulaFor (closeOf all x gs)) o′ r
+
+-- 10, 11 or none (0): what is judged before the bytes of the replacement are counted
+unfoldable pub early : ℕ → Formula → ℕ
+unfolding terms points numbersFit push
+early x f = cond (ltb mostTerms (length (terms x f))) (gatheredNo Full) (cond (numbersFit (points x (terms x f)) (push false f)) 0 (copiedNo Big))
+
+-- what the replacement of the quantifier of x over f came to, where o is the output
+abbrev pub MadeOf : Bool → ℕ → Formula → List ℕ → Made → Type 0
+MadeOf all x f o (Made.Fine used r) = (early x f ≡ 0) × (used ≡ length (encode f)) × Put (replacement all x f) o r
+MadeOf all x f o (Made.Refused e) = (early x f ≡ e) × (1 ≤ e)
+
+-- ---- the splice: r bytes of out in place of those from o to e, of a formula of len bytes
+
+-- the length after it
+abbrev pub splicedEnd : ℕ → ℕ → ℕ → ℕ → ℕ
+splicedEnd len o e r = o + r + (len - e)
+
+-- o and e lie in the formula, and each buffer has room for a result
+pub record Places (len o e : ℕ) (cur work out : List ℕ) : Type 0 where
+  pub start : o ≤ e
+  pub stop : e ≤ len
+  pub few : len ≤ resultBytes
+  pub cur-long : resultBytes ≤ length cur
+  pub work-long : resultBytes ≤ length work
+  pub out-long : resultBytes ≤ length out
+
+pub record Splices (len o e r : ℕ) (cur₀ cur work₀ work out : List ℕ) (s : Stepped) : Type 0 where
+  pub answer : s ≡ cond (ltb resultBytes (splicedEnd len o e r)) (Stepped.Refused 12) (Stepped.Fine (splicedEnd len o e r))
+  pub bytes : splicedEnd len o e r ≤ resultBytes → take (splicedEnd len o e r) cur ≡ take o cur₀ ++ (take r out ++ drop e (take len cur₀))
   pub cur-rest : drop resultBytes cur ≡ drop resultBytes cur₀
   pub work-rest : drop resultBytes work ≡ drop resultBytes work₀

@@ -1,34 +1,45 @@
 // A copy of a formula at a point, in one pass: NOT is pushed inward, WINDOW is opened, each atom is decided or written, and the list rule is applied
 // on the way.
 use crate::Copied;
-use crate::lists;
+use crate::listing;
 use crate::writing;
 use exact::Outcome;
 use exact::Point;
 use exact::atom_at;
 use exact::negated;
 use exact::single;
-use reading::int_at;
-use reading::nine;
-use reading::u16_at;
+use reading::ATOM_BYTES;
+use reading::LIST_BYTES;
+use reading::NOT_BYTES;
+use reading::Shape;
+use reading::WINDOW_BYTES;
+use reading::Window;
+use reading::comparison_number;
+use reading::members_at;
+use reading::row_at;
+use reading::shape_at;
+use reading::window_at;
+ghost use mathlib.Core.Bool.{true};
 ghost use mathlib.Core.Path.{_≡_};
 ghost use Prim.Native.Nat.{_+_, _≤_, _<_};
 ghost use lib.ListN.{length};
 ghost use Rattle.reading.specs.Limits.{M, variables};
-ghost use Rattle.reading.specs.Bytes.{le2, int4};
-ghost use Rattle.reading.specs.Formula.{encode};
+ghost use Rattle.reading.specs.Formula.{atom, list, encode, atomSize, windowSize};
 ghost use Rattle.reading.specs.Reading.{treeOf};
+ghost use Rattle.reading.specs.Views.{shapeOf};
 ghost use Rattle.exact.specs.Numbers.{Within, Each};
 ghost use Rattle.exact.specs.Atoms.{comparisonOf, spotOf, Ready};
-ghost use Rattle.elimination.specs.Copying.{Wrote, settle, pair, denied, windowAt, isAll, IsLeaf, IsList, copied, Asks};
+ghost use Rattle.rules.specs.Pushing.{under, two, pushAtom, pushWindow, push};
+ghost use Rattle.elimination.specs.Listing.{Wrote};
+ghost use Rattle.elimination.specs.Copying.{came, Asks};
 
 // One atom at the point, written at `to` where it stays; used is the length of its source.
 fn atom(kind: u8, ns: [i64; 9], q: Point, out: &mut [u8], to: usize, used: usize) -> Copied
     requires { ⌜ (1 ≤ kind) × (kind ≤ 3) ⌝ }
     requires { ⌜ Each M ns ⌝ }
     requires { ⌜ Ready q ⌝ }
-    requires { ⌜ to + 40 ≤ length (now out) ⌝ }
-    ensures { λ r. ⌜ Wrote (settle (spotOf q) (comparisonOf kind) ns) used to (now (out .entry)) (now (out .exit)) r ⌝ }
+    requires { ⌜ to + atomSize ≤ length (now out) ⌝ }
+    ensures { λ r. ⌜ Wrote (came (spotOf q) (atom (comparisonOf kind) ns)) used to (now (out .entry)) (now (out .exit)) r ⌝ }
 {
     let r = atom_at(kind, ns, q);
     let o = r.outcome;
@@ -39,7 +50,7 @@ fn atom(kind: u8, ns: [i64; 9], q: Point, out: &mut [u8], to: usize, used: usize
             if r.fits {
                 let k = r.nums;
                 writing::put_atom(out, to, kind as usize, k);
-                return Copied::Kept(used, to + 40);
+                return Copied::Kept(used, to + ATOM_BYTES);
             }
             Copied::Big
         }
@@ -62,35 +73,35 @@ fn pair(
     requires { ⌜ Each M b ⌝ }
     requires { ⌜ Ready q ⌝ }
     requires { ⌜ to + 86 ≤ length (now out) ⌝ }
-    ensures { λ r. ⌜ Wrote (pair (spotOf q) all (comparisonOf kind) a b) used to (now (out .entry)) (now (out .exit)) r ⌝ }
+    ensures { λ r. ⌜ Wrote (came (spotOf q) (list all (two (atom (comparisonOf kind) a) (atom (comparisonOf kind) b)))) used to (now (out .entry)) (now (out .exit)) r ⌝ }
 {
-    let l = lists::opened(all, to);
+    let l = listing::opened(all, to);
     let e = l.end;
     let r = atom(kind, a, q, out, e, 0);
-    if lists::is_big(r) {
+    if let Copied::Big = r {
         return Copied::Big;
     }
-    let m = lists::taken(l, r);
+    let m = listing::taken(l, r);
     let f = m.end;
     let t = atom(kind, b, q, out, f, 0);
-    if lists::is_big(t) {
+    if let Copied::Big = t {
         return Copied::Big;
     }
-    lists::closed(lists::taken(m, t), out, used)
+    listing::closed(listing::taken(m, t), out, used)
 }
 
-// A WINDOW.
-fn window(s: &[u8], neg: bool, q: Point, out: &mut [u8], to: usize) -> Copied
-    requires { ⌜ (14 ≤ length (now s)) × (le2 (now s) 4 < variables) ⌝ }
-    requires { ⌜ Within M (int4 (now s) 6) ⌝ }
-    requires { ⌜ Within M (int4 (now s) 10) ⌝ }
+// A WINDOW, under NOT or not.
+fn window(w: Window, neg: bool, q: Point, out: &mut [u8], to: usize) -> Copied
+    requires { ⌜ w .variable < variables ⌝ }
+    requires { ⌜ Within M (w .lo) ⌝ }
+    requires { ⌜ Within M (w .hi) ⌝ }
     requires { ⌜ to + 86 ≤ length (now out) ⌝ }
     requires { ⌜ Ready q ⌝ }
-    ensures { λ r. ⌜ Wrote (windowAt neg (spotOf q) (le2 (now (s .entry)) 4) (int4 (now (s .entry)) 6) (int4 (now (s .entry)) 10)) 14 to (now (out .entry)) (now (out .exit)) r ⌝ }
+    ensures { λ r. ⌜ Wrote (came (spotOf q) (pushWindow neg (w .variable) (w .lo) (w .hi))) windowSize to (now (out .entry)) (now (out .exit)) r ⌝ }
 {
-    let v = u16_at(s, 4) as usize;
-    let lo = int_at(s, 6);
-    let hi = int_at(s, 10);
+    let v = w.variable;
+    let lo = w.lo;
+    let hi = w.hi;
     if neg {
         pair(
             false,
@@ -100,7 +111,7 @@ fn window(s: &[u8], neg: bool, q: Point, out: &mut [u8], to: usize) -> Copied
             q,
             out,
             to,
-            14,
+            WINDOW_BYTES,
         )
     } else {
         pair(
@@ -111,7 +122,7 @@ fn window(s: &[u8], neg: bool, q: Point, out: &mut [u8], to: usize) -> Copied
             q,
             out,
             to,
-            14,
+            WINDOW_BYTES,
         )
     }
 }
@@ -122,74 +133,74 @@ fn denied(kind: u8, ns: [i64; 9], q: Point, out: &mut [u8], to: usize) -> Copied
     requires { ⌜ Each M ns ⌝ }
     requires { ⌜ to + 86 ≤ length (now out) ⌝ }
     requires { ⌜ Ready q ⌝ }
-    ensures { λ r. ⌜ Wrote (denied (spotOf q) (comparisonOf kind) ns) 40 to (now (out .entry)) (now (out .exit)) r ⌝ }
+    ensures { λ r. ⌜ Wrote (came (spotOf q) (pushAtom true (comparisonOf kind) ns)) atomSize to (now (out .entry)) (now (out .exit)) r ⌝ }
 {
     if kind == 1 {
-        return atom(2, negated(ns), q, out, to, 40);
+        return atom(2, negated(ns), q, out, to, ATOM_BYTES);
     }
     if kind == 2 {
-        return atom(1, negated(ns), q, out, to, 40);
+        return atom(1, negated(ns), q, out, to, ATOM_BYTES);
     }
-    pair(false, 1, ns, negated(ns), q, out, to, 40)
+    pair(false, 1, ns, negated(ns), q, out, to, ATOM_BYTES)
 }
 
-// An atom or a window, under NOT or not.
-fn leaf(s: &[u8], neg: bool, q: Point, out: &mut [u8], to: usize) -> Copied
-    requires { ⌜ Asks (now s) q to (length (now out)) ⌝ }
-    requires { ⌜ IsLeaf (treeOf (now s)) ⌝ }
-    ensures { λ r. ⌜ Wrote (copied neg (spotOf q) (treeOf (now (s .entry)))) (length (encode (treeOf (now (s .entry))))) to (now (out .entry)) (now (out .exit)) r ⌝ }
+// An atom, under NOT or not.
+fn literal(kind: u8, ns: [i64; 9], neg: bool, q: Point, out: &mut [u8], to: usize) -> Copied
+    requires { ⌜ (1 ≤ kind) × (kind ≤ 3) ⌝ }
+    requires { ⌜ Each M ns ⌝ }
+    requires { ⌜ to + 86 ≤ length (now out) ⌝ }
+    requires { ⌜ Ready q ⌝ }
+    ensures { λ r. ⌜ Wrote (came (spotOf q) (pushAtom neg (comparisonOf kind) ns)) atomSize to (now (out .entry)) (now (out .exit)) r ⌝ }
 {
-    let kind = u16_at(s, 2);
-    if kind == 9 {
-        return window(s, neg, q, out, to);
-    }
     if neg {
-        return denied(kind as u8, nine(s), q, out, to);
+        return denied(kind, ns, q, out, to);
     }
-    atom(kind as u8, nine(s), q, out, to, 40)
+    atom(kind, ns, q, out, to, ATOM_BYTES)
 }
 
-// Whether a list of the kind, under NOT or not, is ALLOF once NOT is pushed.
-fn is_all(kind: u16, neg: bool) -> bool
-    ensures { λ r. ⌜ r ≡ isAll kind neg ⌝ }
+// Whether a list, ALLOF or not, is ALLOF once NOT is pushed.
+fn is_all(all: bool, neg: bool) -> bool
+    ensures { λ r. ⌜ r ≡ under neg all ⌝ }
 {
-    if kind == 5 {
-        return lists::flip(neg);
+    if neg {
+        return !all;
     }
-    neg
+    all
 }
 
-// The formula at the start of s, under NOT or not, at the point q, written from `to` on.
+// The formula at the start of s, under NOT or not, at the point q, written from `to` on. A quantifier is never met.
 pub fn copied(s: &[u8], neg: bool, q: Point, out: &mut [u8], to: usize) -> Copied
     requires { ⌜ Asks (now s) q to (length (now out)) ⌝ }
-    ensures { λ r. ⌜ Wrote (copied neg (spotOf q) (treeOf (now (s .entry)))) (length (encode (treeOf (now (s .entry))))) to (now (out .entry)) (now (out .exit)) r ⌝ }
+    ensures { λ r. ⌜ Wrote (came (spotOf q) (push neg (treeOf (now (s .entry))))) (length (encode (treeOf (now (s .entry))))) to (now (out .entry)) (now (out .exit)) r ⌝ }
 {
-    let kind = u16_at(s, 2);
-    match kind {
-        4 => lists::after(4, copied(&s[4..], lists::flip(neg), q, out, to)),
-        5 | 6 => copied_list(s, neg, q, out, to),
-        _ => leaf(s, neg, q, out, to),
+    let shape = shape_at(s);
+    match shape {
+        Shape::Atom(c) => literal(comparison_number(c), row_at(s), neg, q, out, to),
+        Shape::Not => listing::after(NOT_BYTES, copied(&s[NOT_BYTES..], !neg, q, out, to)),
+        Shape::List(all) => copied_list(s, all, neg, q, out, to),
+        Shape::Quantifier(_) => Copied::Big,
+        Shape::Window => window(window_at(s), neg, q, out, to),
     }
 }
 
-// The list at the start of s, each member under NOT or not.
-fn copied_list(s: &[u8], neg: bool, q: Point, out: &mut [u8], to: usize) -> Copied
+// The list at the start of s, ALLOF or not, each member under NOT or not.
+fn copied_list(s: &[u8], all: bool, neg: bool, q: Point, out: &mut [u8], to: usize) -> Copied
     requires { ⌜ Asks (now s) q to (length (now out)) ⌝ }
-    requires { ⌜ IsList (treeOf (now s)) ⌝ }
-    ensures { λ r. ⌜ Wrote (copied neg (spotOf q) (treeOf (now (s .entry)))) (length (encode (treeOf (now (s .entry))))) to (now (out .entry)) (now (out .exit)) r ⌝ }
+    requires { ⌜ shapeOf (treeOf (now s)) ≡ Shape.List all ⌝ }
+    ensures { λ r. ⌜ Wrote (came (spotOf q) (push neg (treeOf (now (s .entry))))) (length (encode (treeOf (now (s .entry))))) to (now (out .entry)) (now (out .exit)) r ⌝ }
 {
-    let mut l = lists::opened(is_all(u16_at(s, 2), neg), to);
-    let mut at: usize = 6;
-    let mut left = u16_at(s, 4) as usize;
+    let mut l = listing::opened(is_all(all, neg), to);
+    let mut at: usize = LIST_BYTES;
+    let mut left = members_at(s);
     while left > 0 {
         let end = l.end;
         let r = copied(&s[at..], neg, q, out, end);
-        if lists::is_big(r) {
+        if let Copied::Big = r {
             return Copied::Big;
         }
-        at += lists::used_of(r);
-        l = lists::taken(l, r);
+        at += listing::used_of(r);
+        l = listing::taken(l, r);
         left -= 1;
     }
-    lists::closed(l, out, at)
+    listing::closed(l, out, at)
 }

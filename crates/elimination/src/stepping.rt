@@ -4,13 +4,14 @@ use crate::Copies;
 use crate::Gathered;
 use crate::Made;
 use crate::Stepped;
-use crate::lists;
-use crate::terms;
+use crate::gathering;
+use crate::listing;
 use crate::trying;
 use crate::writing;
+use reading::QUANTIFIER_BYTES;
 use reading::RESULT_BYTES;
 use reading::SHEET_BYTES;
-use reading::u16_at;
+use reading::binder_at;
 ghost use mathlib.Core.Path.{_≡_};
 ghost use Prim.Native.Nat.{_+_, _-_, _*_, _≤_, _<_};
 ghost use lib.ListN.{length};
@@ -19,12 +20,8 @@ ghost use Rattle.reading.specs.Formula.{list, none};
 ghost use Rattle.reading.specs.Reading.{treeOf};
 ghost use Rattle.reading.specs.Quantifiers.{lastIn, foundOf};
 ghost use Rattle.reading.specs.declared.Found.the-variants.{At};
-ghost use Rattle.elimination.specs.Stepping.{held, Stands, Steps};
-ghost use Rattle.elimination.specs.Splicing.{Put, Closable, Replaces, MadeOf, Places, Splices};
 ghost use Rattle.elimination.specs.Trying.{Copiable};
-
-// The kind of EVERY.
-const EVERY: u16 = 8;
+ghost use Rattle.elimination.specs.Stepping.{held, Stands, Steps, Put, Closable, Replaces, MadeOf, Places, Splices};
 
 // Room for the copies of a body, in a formula no longer than a sheet and in any formula: for a list up to six bytes longer than a result, and then
 // for a copy, which has at most seven times the bytes of the body.
@@ -49,12 +46,12 @@ fn replaced(c: Copies, out: &mut [u8]) -> usize
 {
     let l = c.list;
     if l.fixed {
-        return sure(out, lists::flip(l.all));
+        return sure(out, !l.all);
     }
     if c.over {
         return RESULT_BYTES + 1;
     }
-    let r = lists::closed(l, out, 0);
+    let r = listing::closed(l, out, 0);
     match r {
         Copied::Decided(_, v) => sure(out, v),
         Copied::Kept(_, e) => e,
@@ -68,7 +65,7 @@ fn made(s: &[u8], x: usize, all: bool, out: &mut [u8]) -> Made
     ensures { λ r. ⌜ MadeOf all x (treeOf (now (s .entry))) (now (out .exit)) r ⌝ }
 {
     let mut ts = [0i64; 640];
-    let g = terms::gather(s, x, &mut ts, 0);
+    let g = gathering::gather(s, x, &mut ts, 0);
     match g {
         Gathered::Full => Made::Refused(10),
         Gathered::Fine(used, n) => {
@@ -116,10 +113,9 @@ fn step_with(cur: &mut [u8], work: &mut [u8], out: &mut [u8], len: usize, o: usi
     requires { ⌜ resultBytes + 6 + 7 * (len - 6) ≤ length (now out) ⌝ }
     ensures { λ r. ⌜ Steps (held len (now (cur .entry))) (now (cur .entry)) (now (cur .exit)) (now (work .entry)) (now (work .exit)) r ⌝ }
 {
-    let all = u16_at(cur, o + 2) == EVERY;
-    let x = u16_at(cur, o + 4) as usize;
-    let from = o + 6;
-    let m = made(&cur[from..len], x, all, out);
+    let b = binder_at(&cur[o..len]);
+    let from = o + QUANTIFIER_BYTES;
+    let m = made(&cur[from..len], b.variable, b.every, out);
     match m {
         Made::Fine(used, r) => splice(cur, work, out, len, o, from + used, r),
         Made::Refused(e) => Stepped::Refused(e),

@@ -1,29 +1,38 @@
 // The test of a quantifier-free sheet at eight whole numbers over one denominator, given as nine numbers. It writes nothing.
 use crate::Holds;
 use crate::Tested;
+use reading::ATOM_BYTES;
+use reading::DONE;
 use reading::Found;
+use reading::LIST_BYTES;
 use reading::Limit;
+use reading::NOT_BYTES;
+use reading::QUANTIFIED;
 use reading::Reply;
+use reading::Shape;
+use reading::WINDOW_BYTES;
+use reading::WRONG_VALUE;
+use reading::Window;
+use reading::comparison_number;
 use reading::first_quantifier;
-use reading::int_at;
-use reading::nine;
+use reading::members_at;
 use reading::read_whole;
-use reading::u16_at;
+use reading::row_at;
+use reading::shape_at;
+use reading::window_at;
 ghost use mathlib.Core.Path.{_≡_};
-ghost use mathlib.Core.Bool.{_&&_};
-ghost use Prim.Native.Nat.{_+_, _≤_, _<_};
+ghost use mathlib.Core.Bool.{_&&_, cond};
+ghost use Prim.Native.Nat.{_+_, _<_};
 ghost use lib.Dec.{leb};
-ghost use lib.ListN.{length};
 ghost use lib.IntN.{natAbs, _+ℤ_, _*ℤ_};
 ghost use lib.Signed.{leZ};
 ghost use Rattle.reading.specs.Limits.{M, variables, mostValue};
-ghost use Rattle.reading.specs.Bytes.{le2, int4};
-ghost use Rattle.reading.specs.Records.{pick};
+ghost use Rattle.reading.specs.Formula.{notSize};
 ghost use Rattle.reading.specs.Reading.{treeOf};
+ghost use Rattle.reading.specs.Views.{shapeOf};
 ghost use Rattle.exact.specs.Numbers.{at, Within, Each};
-ghost use Rattle.elimination.specs.Copying.{IsLeaf, IsList};
-ghost use Rattle.elimination.specs.Testing.{sumAt, join, allowed, tested};
-ghost use Rattle.elimination.specs.Holding.{deniedOf, holdsOf, Tries};
+ghost use Rattle.elimination.specs.Testing.{deniedOf, holdsOf, Testable, trialOf};
+ghost use Rattle.rules.specs.Test.{sumAt, join, allowed, tested};
 
 // The values and the denominator of a test lie in -MOST_VALUE..MOST_VALUE.
 const MOST_VALUE: i64 = 1000000;
@@ -55,52 +64,38 @@ fn sum(ns: [i64; 9], w: [i64; 9]) -> i64
     t
 }
 
-fn in_window(s: &[u8], w: [i64; 9]) -> bool
-    requires { ⌜ (14 ≤ length (now s)) × (le2 (now s) 4 < variables) ⌝ }
-    requires { ⌜ Within M (int4 (now s) 6) ⌝ }
-    requires { ⌜ Within M (int4 (now s) 10) ⌝ }
+// Whether the variable of a window lies between its ends, all times the denominator.
+fn in_window(b: Window, w: [i64; 9]) -> bool
+    requires { ⌜ b .variable < variables ⌝ }
+    requires { ⌜ Within M (b .lo) ⌝ }
+    requires { ⌜ Within M (b .hi) ⌝ }
     requires { ⌜ Each mostValue w ⌝ }
-    ensures { λ r. ⌜ r ≡ (leZ (int4 (now (s .entry)) 6 *ℤ at w 8) (at w (le2 (now (s .entry)) 4)) && leZ (at w (le2 (now (s .entry)) 4)) (int4 (now (s .entry)) 10 *ℤ at w 8)) ⌝ }
+    ensures { λ r. ⌜ r ≡ (leZ (b .lo *ℤ at w 8) (at w (b .variable)) && leZ (at w (b .variable)) (b .hi *ℤ at w 8)) ⌝ }
 {
-    let x = u16_at(s, 4) as usize;
+    let x = b.variable;
     let q = w[8];
     let p = w[x];
-    let lo = added(0, int_at(s, 6), q);
-    let hi = added(0, int_at(s, 10), q);
+    let lo = added(0, b.lo, q);
+    let hi = added(0, b.hi, q);
     if lo <= p {
         return p <= hi;
     }
     false
 }
 
-// An atom or a window.
-fn holds_leaf(s: &[u8], w: [i64; 9]) -> Holds
-    requires { ⌜ Tries (now s) w ⌝ }
-    requires { ⌜ IsLeaf (treeOf (now s)) ⌝ }
-    ensures { λ r. ⌜ r ≡ holdsOf w (treeOf (now (s .entry))) ⌝ }
-{
-    let kind = u16_at(s, 2);
-    if kind == 9 {
-        let b = in_window(s, w);
-        return Holds { used: 14, holds: b };
-    }
-    let b = exact::holds(kind as u8, sum(nine(s), w));
-    Holds { used: 40, holds: b }
-}
-
 // The answer for a formula under NOT.
 fn denied(h: Holds) -> Holds
-    requires { ⌜ 4 + h .used < 18446744073709551616 ⌝ }
+    requires { ⌜ notSize + h .used < 18446744073709551616 ⌝ }
     ensures { λ r. ⌜ r ≡ deniedOf h ⌝ }
 {
     if h.holds {
         return Holds {
-            used: 4 + h.used,
+            used: NOT_BYTES + h.used,
             holds: false,
         };
     }
     Holds {
-        used: 4 + h.used,
+        used: NOT_BYTES + h.used,
         holds: true,
     }
 }
@@ -121,29 +116,45 @@ fn joined(all: bool, holds: bool, member: bool) -> bool
     member
 }
 
-// Whether the formula that s begins with holds at the values, and its length.
+// Whether the formula that s begins with holds at the values, and its length. A quantifier is never met.
 fn holds_at(s: &[u8], w: [i64; 9]) -> Holds
-    requires { ⌜ Tries (now s) w ⌝ }
+    requires { ⌜ Testable (now s) w ⌝ }
     ensures { λ r. ⌜ r ≡ holdsOf w (treeOf (now (s .entry))) ⌝ }
 {
-    let kind = u16_at(s, 2);
-    match kind {
-        4 => denied(holds_at(&s[4..], w)),
-        5 | 6 => holds_list(s, w),
-        _ => holds_leaf(s, w),
+    let shape = shape_at(s);
+    match shape {
+        Shape::Atom(c) => {
+            let b = exact::holds(comparison_number(c), sum(row_at(s), w));
+            Holds {
+                used: ATOM_BYTES,
+                holds: b,
+            }
+        }
+        Shape::Not => denied(holds_at(&s[NOT_BYTES..], w)),
+        Shape::List(all) => holds_list(s, all, w),
+        Shape::Quantifier(_) => Holds {
+            used: 0,
+            holds: false,
+        },
+        Shape::Window => {
+            let b = in_window(window_at(s), w);
+            Holds {
+                used: WINDOW_BYTES,
+                holds: b,
+            }
+        }
     }
 }
 
 // The same for a list, member by member.
-fn holds_list(s: &[u8], w: [i64; 9]) -> Holds
-    requires { ⌜ Tries (now s) w ⌝ }
-    requires { ⌜ IsList (treeOf (now s)) ⌝ }
+fn holds_list(s: &[u8], all: bool, w: [i64; 9]) -> Holds
+    requires { ⌜ Testable (now s) w ⌝ }
+    requires { ⌜ shapeOf (treeOf (now s)) ≡ Shape.List all ⌝ }
     ensures { λ r. ⌜ r ≡ holdsOf w (treeOf (now (s .entry))) ⌝ }
 {
-    let all = u16_at(s, 2) == 5;
     let mut holds = all;
-    let mut at: usize = 6;
-    let mut left = u16_at(s, 4) as usize;
+    let mut at: usize = LIST_BYTES;
+    let mut left = members_at(s);
     while left > 0 {
         let h = holds_at(&s[at..], w);
         holds = joined(all, holds, h.holds);
@@ -183,14 +194,14 @@ fn allowed(w: [i64; 9]) -> bool
 }
 
 fn verdict_of(holds: bool) -> usize
-    ensures { λ r. ⌜ r ≡ pick holds 1 0 ⌝ }
+    ensures { λ r. ⌜ r ≡ cond holds 1 0 ⌝ }
 {
     if holds { 1 } else { 0 }
 }
 
 // The test: 2 to 9, then 13 at the first quantifier, then 14; else whether the sheet holds at the eight values over the denominator w[8].
 pub fn test(sheet: &[u8], w: [i64; 9]) -> Tested
-    ensures { λ r. ⌜ r ≡ tested (now (sheet .entry)) w ⌝ }
+    ensures { λ r. ⌜ trialOf r ≡ tested (now (sheet .entry)) w ⌝ }
 {
     match read_whole(sheet, Limit::Result) {
         Reply::Refused(number, place) => Tested {
@@ -200,7 +211,7 @@ pub fn test(sheet: &[u8], w: [i64; 9]) -> Tested
         },
         Reply::Done(_) => match first_quantifier(sheet) {
             Found::At(place) => Tested {
-                number: 13,
+                number: QUANTIFIED,
                 verdict: 3,
                 place: place,
             },
@@ -208,13 +219,13 @@ pub fn test(sheet: &[u8], w: [i64; 9]) -> Tested
                 if allowed(w) {
                     let h = holds_at(sheet, w);
                     return Tested {
-                        number: 0,
+                        number: DONE,
                         verdict: verdict_of(h.holds),
                         place: 0,
                     };
                 }
                 Tested {
-                    number: 14,
+                    number: WRONG_VALUE,
                     verdict: 3,
                     place: 0,
                 }

@@ -9,7 +9,7 @@ ghost use Rattle.reading.specs.Bytes.{bytes2, bytes4, intBytes};
 ghost use Rattle.reading.specs.Formula.{listNo};
 ghost use Rattle.exact.specs.Numbers.{Within, Each};
 ghost use Rattle.elimination.specs.Writing.{lay, atomBytes, listBytes};
-ghost use Rattle.elimination.specs.Eliminate.{zeros};
+ghost use Rattle.rules.specs.Eliminate.{zeros};
 
 pub fn put_u16(d: &mut [u8], at: usize, n: usize)
     requires { ⌜ (at + 2 ≤ length (now d)) × (n < 65536) ⌝ }

@@ -2,7 +2,7 @@
 -- ---- the comparison
 use mathlib.Core.Path.{_≡_, refl, sym, _∙_, ap, ap₂, subst}
 use mathlib.Core.List.{List}
-use mathlib.Core.Bool.{Bool, true, false, not}
+use mathlib.Core.Bool.{Bool, true, false, not, cond}
 use Prim.Native.Nat.{ℕ}
 use native.Mathlib.Omega.{arith}
 use lib.Dec.{eqb}
@@ -13,39 +13,39 @@ use mir.Syntax.{w64}
 use mir.Val.{ofZ}
 use lib.ListN.{length}
 use Rattle.reading.specs.Limits.{M}
-use Rattle.reading.specs.Records.{pick}
 use Rattle.reading.specs.Formula.{Comparison, atmost, equal, less}
 use Rattle.exact.specs.Numbers.{at, Each, isZero}
 use Rattle.exact.specs.Divisor.{reduced}
 use Rattle.exact.specs.Terms.{leftAt}
-use Rattle.exact.specs.Atoms.{holds, noVariable, sure, new, settled, nowhere, below, above, here, pointAt, pointOf, farOf, atomAt, comparisonOf, spotBy, Came, putOf, spotOf, Spot, fitting}
+use Rattle.exact.specs.Atoms.{holds, noVariable, sure, new, settled, nowhere, below, above, here, pointAt, pointOf, farOf, atomAt, comparisonOf, spotBy, Came, putOf, spotOf, Spot}
 use Rattle.exact.specs.declared.PointKind.{PointKind}
 use Rattle.exact.specs.declared.Point.{Point}
 use Rattle.exact.specs.declared.Put.{Put}
 use Rattle.exact.specs.declared.PointKind.the-variants.{Below, Above, Here, Nowhere}
 use Rattle.exact.proofs.Sizes.{in-more, in-+, in-*, fits, bits-eqb}
-use Rattle.exact.proofs.Loops.{Filled, fill-done, length-tab}
+use Rattle.exact.proofs.Loops.{fill-done, length-tab}
+use Rattle.reading.proofs.Filling.{Filled}
 use Rattle.exact.proofs.Terms.{in-left}
 use Rattle.exact.proofs.Rows.{each-tab, all-each, length-reduced, each-zeros}
 
 pub holds-1 : (k : ℕ) (c : ℤ) → k ≡ 1 → ltZ c (pos 0) ≡ holds (comparisonOf k) c
-holds-1 k c e = sym (ap (λ (a : Bool). holds (pick a less (pick (eqb k 2) atmost equal)) c) (eq-eqb k 1 e))
+holds-1 k c e = sym (ap (λ (a : Bool). holds (cond a less (cond (eqb k 2) atmost equal)) c) (eq-eqb k 1 e))
 
 pub holds-2 : (k : ℕ) (c : ℤ) → (k ≡ 1 → ⊥) → k ≡ 2 → leZ c (pos 0) ≡ holds (comparisonOf k) c
-holds-2 k c n e = sym (ap₂ (λ (a b : Bool). holds (pick a less (pick b atmost equal)) c) (ne-eqb k 1 n) (eq-eqb k 2 e))
+holds-2 k c n e = sym (ap₂ (λ (a b : Bool). holds (cond a less (cond b atmost equal)) c) (ne-eqb k 1 n) (eq-eqb k 2 e))
 
 pub holds-3 : (k : ℕ) (c : ℤ) → (k ≡ 1 → ⊥) → (k ≡ 2 → ⊥) → isZero c ≡ holds (comparisonOf k) c
-holds-3 k c n m = sym (ap₂ (λ (a b : Bool). holds (pick a less (pick b atmost equal)) c) (ne-eqb k 1 n) (ne-eqb k 2 m))
+holds-3 k c n m = sym (ap₂ (λ (a b : Bool). holds (cond a less (cond b atmost equal)) c) (ne-eqb k 1 n) (ne-eqb k 2 m))
 
 -- ---- decided, or divided
 
 pub settled-sure : (c : Comparison) (ns : List ℤ) → noVariable ns ≡ true → settled c ns ≡ sure (holds c (at ns 8))
 unfolding settled
-settled-sure c ns e = ap (λ (b : Bool). pick b (sure (holds c (at ns 8))) (new (reduced ns))) e
+settled-sure c ns e = ap (λ (b : Bool). cond b (sure (holds c (at ns 8))) (new (reduced ns))) e
 
 pub settled-new : (c : Comparison) (ns : List ℤ) → noVariable ns ≡ false → settled c ns ≡ new (reduced ns)
 unfolding settled
-settled-new c ns e = ap (λ (b : Bool). pick b (sure (holds c (at ns 8))) (new (reduced ns))) e
+settled-new c ns e = ap (λ (b : Bool). cond b (sure (holds c (at ns 8))) (new (reduced ns))) e
 
 -- ---- the sum at a fraction
 
@@ -67,9 +67,9 @@ each-point {ns} x {n} h k = each-tab 9 (pointAt ns x n) (λ i. in-more (in-+ (in
 pub at-without : (k : PointKind) (x : ℕ) (n : List ℤ) (c : Comparison) (ns : List ℤ) → isZero (at ns x) ≡ true → atomAt (spotBy k x n) c ns ≡ settled c ns
 unfolding atomAt
 at-without Nowhere x n c ns e = refl
-at-without Below x n c ns e = ap (λ (b : Bool). pick b (settled c ns) (sure (farOf c (not (ltZ (at ns x) (pos 0)))))) e
-at-without Above x n c ns e = ap (λ (b : Bool). pick b (settled c ns) (sure (farOf c (ltZ (at ns x) (pos 0))))) e
-at-without Here x n c ns e = ap (λ (b : Bool). pick b (settled c ns) (settled c (pointOf ns x n))) e
+at-without Below x n c ns e = ap (λ (b : Bool). cond b (settled c ns) (sure (farOf c (not (ltZ (at ns x) (pos 0)))))) e
+at-without Above x n c ns e = ap (λ (b : Bool). cond b (settled c ns) (sure (farOf c (ltZ (at ns x) (pos 0))))) e
+at-without Here x n c ns e = ap (λ (b : Bool). cond b (settled c ns) (settled c (pointOf ns x n))) e
 
 pub at-nowhere : (c : Comparison) (ns : List ℤ) → atomAt nowhere c ns ≡ settled c ns
 unfolding atomAt
@@ -77,15 +77,15 @@ at-nowhere c ns = refl
 
 pub at-below : (x : ℕ) (c : Comparison) (ns : List ℤ) → isZero (at ns x) ≡ false → atomAt (below x) c ns ≡ sure (farOf c (not (ltZ (at ns x) (pos 0))))
 unfolding atomAt
-at-below x c ns e = ap (λ (b : Bool). pick b (settled c ns) (sure (farOf c (not (ltZ (at ns x) (pos 0)))))) e
+at-below x c ns e = ap (λ (b : Bool). cond b (settled c ns) (sure (farOf c (not (ltZ (at ns x) (pos 0)))))) e
 
 pub at-above : (x : ℕ) (c : Comparison) (ns : List ℤ) → isZero (at ns x) ≡ false → atomAt (above x) c ns ≡ sure (farOf c (ltZ (at ns x) (pos 0)))
 unfolding atomAt
-at-above x c ns e = ap (λ (b : Bool). pick b (settled c ns) (sure (farOf c (ltZ (at ns x) (pos 0))))) e
+at-above x c ns e = ap (λ (b : Bool). cond b (settled c ns) (sure (farOf c (ltZ (at ns x) (pos 0))))) e
 
 pub at-here : (x : ℕ) (n : List ℤ) (c : Comparison) (ns : List ℤ) → isZero (at ns x) ≡ false → atomAt (here x n) c ns ≡ settled c (pointOf ns x n)
 unfolding atomAt
-at-here x n c ns e = ap (λ (b : Bool). pick b (settled c ns) (settled c (pointOf ns x n))) e
+at-here x n c ns e = ap (λ (b : Bool). cond b (settled c ns) (settled c (pointOf ns x n))) e
 
 -- whether a coefficient is 0, as the code tests it
 pub zero-is : {ns : List ℤ} (x : ℕ) → Each M ns → ofZ w64 (at ns x) ≡ 0 → isZero (at ns x) ≡ true
@@ -100,15 +100,15 @@ at-kind q k c ns e f = ap putOf (sym f ∙ ap (λ (y : PointKind). atomAt (spotB
 
 -- ---- nine numbers in, nine numbers out; and a fitting atom's numbers lie in −M..M
 
-pub point-long : (ns : List ℤ) (x : ℕ) (n : List ℤ) → length (pointOf ns x n) ≡ 9
+point-long : (ns : List ℤ) (x : ℕ) (n : List ℤ) → length (pointOf ns x n) ≡ 9
 unfolding pointOf
 point-long ns x n = length-tab 9 (pointAt ns x n)
 
-nine-either : (b : Bool) (u v : Came) → length (putOf u .nums) ≡ 9 → length (putOf v .nums) ≡ 9 → length (putOf (pick b u v) .nums) ≡ 9
+nine-either : (b : Bool) (u v : Came) → length (putOf u .nums) ≡ 9 → length (putOf v .nums) ≡ 9 → length (putOf (cond b u v) .nums) ≡ 9
 nine-either true u v h k = h
 nine-either false u v h k = k
 
-pub settled-nine : (c : Comparison) (ns : List ℤ) → length ns ≡ 9 → length (putOf (settled c ns) .nums) ≡ 9
+settled-nine : (c : Comparison) (ns : List ℤ) → length ns ≡ 9 → length (putOf (settled c ns) .nums) ≡ 9
 unfolding settled
 settled-nine c ns h = nine-either (noVariable ns) (sure (holds c (at ns 8))) (new (reduced ns)) refl (length-reduced ns ∙ h)
 
@@ -126,7 +126,3 @@ fitting-each (new ns) e = all-each M ns e
 
 pub fits-each : (o : Came) {r : Put} → r ≡ putOf o → r .fits ≡ true → Each M (r .nums)
 fits-each o {r} e = subst (λ (p : Put). p .fits ≡ true → Each M (p .nums)) (sym e) (fitting-each o)
-
-pub put-fits : (o : Came) → putOf o .fits ≡ fitting o
-put-fits (sure b) = refl
-put-fits (new ns) = refl

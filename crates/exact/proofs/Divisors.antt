@@ -12,7 +12,7 @@ pub record IsGcd (a b g : ℕ) : Type 0 where
   pub right : g ∣ b
   pub great : (k : ℕ) → k ∣ a → k ∣ b → k ∣ g
 
-pub is-unique : {a b g h : ℕ} → IsGcd a b g → IsGcd a b h → g ≡ h
+is-unique : {a b g h : ℕ} → IsGcd a b g → IsGcd a b h → g ≡ h
 is-unique {a} {b} {g} {h} p q = N.dvd-antisymm (q .great g (p .left) (p .right)) (p .great h (q .left) (q .right))
 
 is-zero : (a : ℕ) → IsGcd a zero a
@@ -48,7 +48,7 @@ gcd-zero a = sym (gcd-eq (is-zero a))
 pub gcd-mod : (a b : ℕ) → gcdOf b (a % b) ≡ gcdOf a b
 gcd-mod a b = gcd-eq (is-step (gcd-is b (a % b)))
 
-pub gcd-comm : (a b : ℕ) → gcdOf a b ≡ gcdOf b a
+gcd-comm : (a b : ℕ) → gcdOf a b ≡ gcdOf b a
 gcd-comm a b = let p = gcd-is a b in gcd-eq (record { left = p .right; right = p .left; great = λ k h l. p .great k l h })
 
 pub gcd-le : (a b n : ℕ) → a ≤ n → b ≤ n → gcdOf a b ≤ n

@@ -1,4 +1,4 @@
--- What a loop over a slice or an array has done after i turns: `Mapped` (each element replaced by f of it), `Filled` (an array filled by
+-- What a loop over a slice or an array has done after i turns: `Mapped` (each element replaced by f of it), `fill-done` (an array filled by
 -- index), and `allB` (a test of each element that stops at the first no). A loop's need cites one law of these. Assumes nothing.
 use mathlib.Core.Path.{_≡_, refl, sym, _∙_, ap, ap₂, subst}
 use mathlib.Core.List.{List, [], _∷_, _++_, map}
@@ -6,10 +6,10 @@ use Prim.Native.Nat.{ℕ, zero, suc, _+_, _≤_, _<_, zero-le}
 use native.Mathlib.Nat as N
 use native.Mathlib.Numerals.{add-one}
 use native.Mathlib.Omega.{arith}
-use lib.ListN.{length, getD, take, drop, set, length-append, length-drop, length-map, drop-of-length-le, length-set}
-use mathlib.Core.Logic.{_⊎_, inl, inr}
+use lib.ListN.{length, getD, take, drop, set, length-append, length-drop, length-map, drop-of-length-le}
 use mathlib.Core.Bool.{Bool, true, false, _&&_}
-use lib.Seq.{getD-set-same, getD-set-other, ext-getD, take-suc, drop-cons, set-at, getD-at, append-snoc, length-take-le, take-all}
+use lib.Seq.{ext-getD, take-suc, drop-cons, set-at, getD-at, append-snoc, length-take-le, take-all}
+use Rattle.reading.proofs.Filling.{Filled}
 use Rattle.exact.specs.Numbers.{tab}
 
 module _ {A B : Type 0} (f : A → B) where
@@ -71,25 +71,7 @@ module _ {A : Type 0} where
   tab-ext (suc n) f g h = ap₂ (λ (x : A) (l : List A). x ∷ l) (h 0 (omega arith)) (tab-ext n (λ i. f (suc i)) (λ i. g (suc i)) (λ i k. h (suc i) (omega arith)))
 
 module _ {A : Type 0} (d : A) (f : ℕ → A) (n : ℕ) where
-  -- of n elements the first i are f of their index
-  pub record Filled (s : List A) (i : ℕ) : Type 0 where
-    pub long : length s ≡ n
-    pub at : (k : ℕ) → k < i → getD s k d ≡ f k
-
-  pub fill-none : {s : List A} → length s ≡ n → Filled s 0
-  fill-none e = record { long = e; at = λ k h. absurd (N.not-suc-le-zero h) }
-
-  pub fill-more : {s : List A} {i : ℕ} (v : A) → i < n → Filled s i → v ≡ f i → Filled (set s i v) (i + 1)
-  fill-more {s} {i} v h m e = record { long = length-set s i v ∙ m .long; at = λ k l. go k (N.eq-or-lt-of-le (N.le-of-suc-le-suc (subst (λ (x : ℕ). k < x) (add-one i) l))) }
-    where
-      here : getD (set s i v) i d ≡ f i
-      here = getD-set-same s i v d (subst (λ (x : ℕ). i < x) (sym (m .long)) h) ∙ e
-
-      go : (k : ℕ) → (k ≡ i) ⊎ (k < i) → getD (set s i v) k d ≡ f k
-      go k (inl q) = ap (λ (x : ℕ). getD (set s i v) x d) q ∙ here ∙ ap f (sym q)
-      go k (inr l) = getD-set-other s i k v d (N.ne-of-lt l) ∙ m .at k l
-
-  pub fill-done : {s : List A} → Filled s n → s ≡ tab n f
+  pub fill-done : {s : List A} → Filled d f n s n → s ≡ tab n f
   fill-done {s} m = ext-getD d s (tab n f) (m .long ∙ sym (length-tab n f)) (λ i h. let l : i < n = subst (λ (x : ℕ). i < x) (m .long) h in m .at i l ∙ sym (getD-tab n f i d l))
 
 -- ---- a loop that asks p of each element and stops at the first no

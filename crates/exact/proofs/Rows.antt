@@ -15,9 +15,11 @@ use lib.IntN.{ℤ, pos, negsuc, negℤ, natAbs, _*ℤ_, zero-*ℤ}
 use lib.Signed.{quotZ}
 use mir.Syntax.{w64}
 use mir.Val.{toZ, ofZ}
+use Rattle.reading.specs.Limits.{M}
+use Rattle.reading.specs.Formula.{AllM}
 use Rattle.exact.specs.Numbers.{at, Within, Each, allIn, isZero, eqZ, sameRow, tab, minus, single}
-use Rattle.exact.specs.Divisor.{gcdOf, gcdFrom, gcds, quots, reduced, over}
-use Rattle.exact.specs.Atoms.{zeros}
+use Rattle.exact.specs.Divisor.{gcdOf, gcdFrom, gcds, quots, reduced}
+use Rattle.exact.specs.Atoms.{allZero}
 use Rattle.exact.proofs.Sizes.{quot-exact, rd, fits, in-quot, in-more, in-rd, in-neg}
 use Rattle.exact.proofs.Loops.{allB, getD-tab}
 use Rattle.exact.proofs.Divisors.{gcd-is, gcd-le}
@@ -80,21 +82,12 @@ pub gcds-divides : (l : List ℤ) → EachBy (gcds l) l
 unfolding gcds
 gcds-divides l = from-divides 0 l .1
 
-from-greatest : (g : ℕ) (l : List ℤ) (k : ℕ) → k ∣ g → EachBy k l → k ∣ gcdFrom g l
-unfolding gcdFrom
-from-greatest g [] k h e = h
-from-greatest g (z ∷ l) k h e = from-greatest (gcdOf g (natAbs z)) l k (gcd-is g (natAbs z) .great k h (e .0)) (e .1)
-
-pub gcds-greatest : (l : List ℤ) (k : ℕ) → EachBy k l → k ∣ gcds l
-unfolding gcds
-gcds-greatest l k e = from-greatest 0 l k (N.dvd-zero k) e
-
 -- divided by a common divisor and multiplied by it again, each is as it was
 abbrev pub times : ℕ → List ℤ → List ℤ
 times g [] = []
 times g (z ∷ l) = (z *ℤ pos g) ∷ times g l
 
-pub quots-times : (g : ℕ) (l : List ℤ) → EachBy g l → times g (quots g l) ≡ l
+quots-times : (g : ℕ) (l : List ℤ) → EachBy g l → times g (quots g l) ≡ l
 unfolding quots
 quots-times g [] e = refl
 quots-times g (z ∷ l) e = λ i. quot-exact z g (N.div-mul-cancel g (e .0)) i ∷ quots-times g l (e .1) i
@@ -143,10 +136,10 @@ unfolding allIn allB
 all-is n [] = refl
 all-is n (z ∷ l) = ap (λ (b : Bool). leb (natAbs z) n && b) (all-is n l)
 
-pub zeros-is : (l : List ℤ) → zeros l ≡ allB isZero l
-unfolding zeros allB
-zeros-is [] = refl
-zeros-is (z ∷ l) = ap (λ (b : Bool). isZero z && b) (zeros-is l)
+pub allZero-is : (l : List ℤ) → allZero l ≡ allB isZero l
+unfolding allZero allB
+allZero-is [] = refl
+allZero-is (z ∷ l) = ap (λ (b : Bool). isZero z && b) (allZero-is l)
 
 pub all-each : (n : ℕ) (l : List ℤ) → allIn n l ≡ true → Each n l
 unfolding allIn
@@ -187,13 +180,13 @@ eq-same : (a : ℤ) → eqZ a a ≡ true
 eq-same (pos a) = eq-eqb a a refl
 eq-same (negsuc a) = eq-eqb a a refl
 
-pub eq-not : (a b : ℤ) → (a ≡ b → ⊥) → eqZ a b ≡ false
+eq-not : (a b : ℤ) → (a ≡ b → ⊥) → eqZ a b ≡ false
 eq-not (pos a) (pos b) n = ne-eqb a b (λ e. n (ap pos e))
 eq-not (pos a) (negsuc b) n = refl
 eq-not (negsuc a) (pos b) n = refl
 eq-not (negsuc a) (negsuc b) n = ne-eqb a b (λ e. n (ap negsuc e))
 
-pub eq-is : (a b : ℤ) → a ≡ b → eqZ a b ≡ true
+eq-is : (a b : ℤ) → a ≡ b → eqZ a b ≡ true
 eq-is a b e = subst (λ (z : ℤ). eqZ a z ≡ true) e (eq-same a)
 
 same-front : (a b : List ℤ) (i : ℕ) → i < length a → i < length b → (t : Bool) → eqZ (at a i) (at b i) ≡ t → sameRow (drop i a) (drop i b) ≡ t && sameRow (drop (suc i) a) (drop (suc i) b)
@@ -250,12 +243,6 @@ at-times g [] i = sym (zero-*ℤ (pos g))
 at-times g (z ∷ l) zero = refl
 at-times g (z ∷ l) (suc i) = at-times g l i
 
-pub at-quots : (g : ℕ) (l : List ℤ) (i : ℕ) → at (quots g l) i ≡ over g (at l i)
-unfolding quots
-at-quots g [] i = sym (ap pos (N.zero-div g))
-at-quots g (z ∷ l) zero = refl
-at-quots g (z ∷ l) (suc i) = at-quots g l i
-
 pub length-times : (g : ℕ) (l : List ℤ) → length (times g l) ≡ length l
 length-times g [] = refl
 length-times g (z ∷ l) = ap suc (length-times g l)
@@ -277,7 +264,7 @@ length-single v a c = length-set (set (replicate 9 (pos 0)) v a) 8 c ∙ length-
 
 -- ---- one number set, and the nine of `single`
 
-at-set : (l : List ℤ) (i : ℕ) (a : ℤ) (j : ℕ) → j < length l → at (set l i a) j ≡ cond (eqb j i) a (at l j)
+pub at-set : (l : List ℤ) (i : ℕ) (a : ℤ) (j : ℕ) → j < length l → at (set l i a) j ≡ cond (eqb j i) a (at l j)
 at-set l i a j h = go (eqb j i) refl
   where
     go : (b : Bool) → eqb j i ≡ b → at (set l i a) j ≡ cond b a (at l j)
@@ -304,3 +291,13 @@ pub by-at : (k : ℕ) (l : List ℤ) → EachBy k l → (i : ℕ) → k ∣ natA
 by-at k [] e i = N.dvd-zero k
 by-at k (z ∷ l) e zero = e .0
 by-at k (z ∷ l) e (suc i) = by-at k l (e .1) i
+
+-- ---- rows in −M..M, as the ranges of a record say it and as the laws of rows do
+
+pub allM-each : (l : List ℤ) → AllM l → Each M l
+allM-each [] w = each-nil
+allM-each (z ∷ l) w = each-cons (record { size = w .0 }) (allM-each l (w .1))
+
+pub each-allM : (l : List ℤ) → Each M l → AllM l
+each-allM [] e = tt
+each-allM (z ∷ l) e = (e .at 0 .size, each-allM l (each-tail e))

@@ -7,17 +7,22 @@ use Prim.Native.Nat.{ℕ, zero, suc, _+_, _*_, _-_, _/_, _^_, _≤_, _<_}
 use native.Mathlib.Nat as N
 use native.Mathlib.Omega.{arith}
 use lib.Dec.{T, eqb, leb, ltb, leb→le, ltb→lt, lit<}
-use borrow.Author.Tests.{ne-eqb}
+use borrow.Author.Tests.{ne-eqb, eqb-true}
 use lib.IntN.{pos-ne-negsuc, ℤ, pos, negsuc, negℤ, natAbs, _+ℤ_, _*ℤ_}
 use lib.Signed.{natAbs-le, ltZ, mag, quotZ, nonNeg}
 use mir.Syntax.{w64}
 use mir.Val.{SFits, Fits, toZ, ofZ}
 use mir.ValLaws.{toZ-ofZ, toZ-pos}
-use Rattle.exact.specs.Numbers.{Within}
-use Rattle.exact.proofs.ZLaws.{negℤ-*ℤ}
+use Rattle.exact.specs.Numbers.{Within, isZero}
+use Rattle.exact.proofs.Ring.{negℤ-*ℤ}
 use Rattle.exact.proofs.Order.{by-sub}
 
-pub mag-le-abs : (z : ℤ) → mag z ≤ natAbs z
+-- the size 0 is that of 0 only
+pub zero-of : (z : ℤ) → isZero z ≡ true → z ≡ pos 0
+zero-of (pos n) e = ap pos (eqb-true n 0 e)
+zero-of (negsuc n) e = absurd (N.suc-ne-zero n (eqb-true (suc n) 0 e))
+
+mag-le-abs : (z : ℤ) → mag z ≤ natAbs z
 mag-le-abs (pos n) = N.le-refl n
 mag-le-abs (negsuc n) = N.le-suc n
 
@@ -32,19 +37,19 @@ abs-* (pos a) (negsuc b) = abs-neg (pos (a * suc b))
 abs-* (negsuc a) (pos b) = abs-neg (pos (suc a * b))
 abs-* (negsuc a) (negsuc b) = refl
 
-pub abs-+ : (a b : ℤ) → natAbs (a +ℤ b) ≤ natAbs a + natAbs b
+abs-+ : (a b : ℤ) → natAbs (a +ℤ b) ≤ natAbs a + natAbs b
 abs-+ (pos a) (pos b) = N.le-refl (a + b)
 abs-+ (pos a) (negsuc b) = by-sub (λ z. natAbs z ≤ a + suc b) a (suc b) (λ h. omega arith) (λ h. omega arith)
 abs-+ (negsuc a) (pos b) = by-sub (λ z. natAbs z ≤ suc a + b) b (suc a) (λ h. omega arith) (λ h. omega arith)
 abs-+ (negsuc a) (negsuc b) = omega arith
 
 -- a bound on the size is a bound on the width
-pub sfits-abs : (z : ℤ) (n : ℕ) → natAbs z ≤ n → n < 2 ^ 63 → SFits w64 z
+sfits-abs : (z : ℤ) (n : ℕ) → natAbs z ≤ n → n < 2 ^ 63 → SFits w64 z
 sfits-abs z n h k = record { sfits = N.lt-of-le-of-lt (N.le-trans (mag-le-abs z) h) k }
 
 -- ---- exact division by a positive number
 
-pub quot-abs : (z : ℤ) (g : ℕ) → natAbs (quotZ z (pos g)) ≡ natAbs z / g
+quot-abs : (z : ℤ) (g : ℕ) → natAbs (quotZ z (pos g)) ≡ natAbs z / g
 quot-abs (pos a) g = refl
 quot-abs (negsuc a) g = abs-neg (pos (suc a / g))
 
@@ -114,7 +119,7 @@ pub ok : (z : ℤ) → mag z < 2 ^ 63 → SFits w64 z
 ok z h = record { sfits = h }
 
 -- a signed local that is compared with 0 by == or !=: the test is of its bits
-pub bits-zero : {z : ℤ} → SFits w64 z → ofZ w64 z ≡ 0 → z ≡ pos 0
+bits-zero : {z : ℤ} → SFits w64 z → ofZ w64 z ≡ 0 → z ≡ pos 0
 bits-zero h e = sym (rd h) ∙ ap (toZ w64) e
 
 pub bits-eqb : (z : ℤ) → SFits w64 z → eqb (ofZ w64 z) 0 ≡ eqb (natAbs z) 0

@@ -12,19 +12,20 @@ use Prim.Native.Nat.{_*_, ℕ, _<_, zero-le, zero, suc}
 use native.Mathlib.Omega.{arith}
 use lib.Dec.{T, leb·suc-zero, eqb, ltb, lit<}
 use borrow.Author.Tests.{lt-ltb, ltb-true, eq-eqb, ne-eqb, eqb-true}
-use lib.ListN.{set, length}
-use lib.IntN.{ℤ, pos, _+ℤ_, _*ℤ_, negsuc, negℤ}
+use lib.ListN.{set, length, replicate, length-set, getD-replicate}
+use lib.IntN.{ℤ, pos, _+ℤ_, _*ℤ_, negsuc, negℤ, negℤ-negℤ, *ℤ-comm}
 use lib.Signed.{ltZ}
 use Rattle.reading.specs.Limits.{M}
 use Rattle.exact.specs.Numbers.{at, isZero, minus, single, tab, Within, Each}
 use Rattle.exact.specs.Terms.{leftAt, turned, termAt, midAt, midOf, boundOf, termOf, midpoint}
 use Rattle.exact.specs.Divisor.{reduced}
-use Rattle.exact.proofs.Ring.{Expr.con, Expr._⊕_, Expr._⊗_, Expr.⊖_, _≐_, ring₁, ring₂}
+use Rattle.exact.proofs.Ring.{_⊕_, _⊗_, ring, two-⊗}
+use Rattle.exact.proofs.Order.{positive, sgn, up-⊗, above-pos}
 use Rattle.exact.proofs.Sizes.{in-neg, in-more, in-+, in-*, in-lit}
-use Rattle.exact.proofs.Loops.{Filled, fill-more, fill-done, length-tab, tab-ext}
-use Rattle.exact.proofs.Rows.{each-tab, each-reduced, at-minus, at-tab, at-times, at-single, single-here, each-cons, each-nil, length-reduced, length-times, times}
-use Rattle.exact.proofs.Sign.{Above, ab-*, ab-as}
-use Rattle.exact.proofs.Reduced.{above-reduced, reduced-again, reduced-scale, unit-reduced}
+use Rattle.exact.proofs.Loops.{fill-done, length-tab, tab-ext}
+use Rattle.reading.proofs.Filling.{Filled, fill-more}
+use Rattle.exact.proofs.Rows.{each-tab, each-reduced, at-minus, at-tab, at-times, at-set, at-single, single-here, each-cons, each-nil, length-times, times}
+use Rattle.exact.proofs.Reduced.{sgn-reduced, reduced-scale, unit-reduced}
 
 pub left-out : (ns : List ℤ) (x i : ℕ) → i ≡ x → pos 0 ≡ leftAt ns x i
 unfolding leftAt
@@ -42,7 +43,7 @@ in-left {n} {ns} x i e = go (eqb i x)
     go true = record { size = zero-le }
     go false = e .at i
 
-pub in-turned : {n : ℕ} {z : ℤ} (b : Bool) → Within n z → Within n (turned b z)
+in-turned : {n : ℕ} {z : ℤ} (b : Bool) → Within n z → Within n (turned b z)
 in-turned true h = in-neg h
 in-turned false h = h
 
@@ -53,7 +54,7 @@ unfolding termAt
 term-low ns x i h =
     sym (ap (λ (b : Bool). cond b (turned (not (ltZ (at ns x) (pos 0))) (leftAt ns x i)) (turned (ltZ (at ns x) (pos 0)) (at ns x))) (lt-ltb i 9 h))
 
-pub term-last : (ns : List ℤ) (x : ℕ) → turned (ltZ (at ns x) (pos 0)) (at ns x) ≡ termAt ns x 9
+term-last : (ns : List ℤ) (x : ℕ) → turned (ltZ (at ns x) (pos 0)) (at ns x) ≡ termAt ns x 9
 unfolding termAt
 term-last ns x = refl
 
@@ -107,68 +108,49 @@ each-bound h =
     let o : Within M (pos 0) = in-lit tt in
     each-cons o (each-cons o (each-cons o (each-cons o (each-cons o (each-cons o (each-cons o (each-cons o (each-cons h (each-cons (in-lit tt) each-nil)))))))))
 
--- ---- ten numbers, reduced
-
-pub term-long : (ns : List ℤ) (x : ℕ) → length (termOf ns x) ≡ 10
-unfolding termOf
-term-long ns x = length-reduced (tab 10 (termAt ns x)) ∙ length-tab 10 (termAt ns x)
-
-pub term-reduced : (ns : List ℤ) (x : ℕ) → reduced (termOf ns x) ≡ termOf ns x
-unfolding termOf
-term-reduced ns x = reduced-again (tab 10 (termAt ns x))
-
-pub bound-long : (c : ℤ) → length (boundOf c) ≡ 10
-unfolding boundOf
-bound-long c = refl
-
-pub bound-reduced : (c : ℤ) → reduced (boundOf c) ≡ boundOf c
-unfolding boundOf
-bound-reduced c = unit-reduced (boundOf c) 9 refl
-
-mid-raw-long : (t u : List ℤ) → length (midOf t u) ≡ 10
-unfolding midOf
-mid-raw-long t u = length-tab 10 (midAt t u)
-
-pub mid-long : (t u : List ℤ) → length (midpoint t u) ≡ 10
-unfolding midpoint
-mid-long t u = length-reduced (midOf t u) ∙ mid-raw-long t u
-
-pub mid-reduced : (t u : List ℤ) → reduced (midpoint t u) ≡ midpoint t u
-unfolding midpoint
-mid-reduced t u = reduced-again (midOf t u)
-
 -- ---- a denominator above 0
 
-turned-above : (a : ℤ) → isZero a ≡ false → Above (turned (ltZ a (pos 0)) a)
+turned-above : (a : ℤ) → isZero a ≡ false → sgn (turned (ltZ a (pos 0)) a) ≡ positive
+unfolding sgn
 turned-above (pos zero) h = absurd (subst T h tt)
-turned-above (pos (suc n)) h = ab-as (ap (λ (b : Bool). turned b (pos (suc n))) (leb·suc-zero (suc n))) (record { n = n; is = refl })
-turned-above (negsuc n) h = record { n = n; is = refl }
+turned-above (pos (suc n)) h = ap (λ (b : Bool). sgn (turned b (pos (suc n)))) (leb·suc-zero (suc n))
+turned-above (negsuc n) h = refl
 
-pub term-above : (ns : List ℤ) (x : ℕ) → isZero (at ns x) ≡ false → Above (at (termOf ns x) 9)
+pub raw-last : (ns : List ℤ) (x : ℕ) → at (tab 10 (termAt ns x)) 9 ≡ turned (ltZ (at ns x) (pos 0)) (at ns x)
+raw-last ns x = at-tab 10 (termAt ns x) 9 (lit< tt) ∙ sym (term-last ns x)
+
+pub raw-above : (ns : List ℤ) (x : ℕ) → isZero (at ns x) ≡ false → sgn (at (tab 10 (termAt ns x)) 9) ≡ positive
+raw-above ns x h = ap sgn (raw-last ns x) ∙ turned-above (at ns x) h
+
+pub term-above : (ns : List ℤ) (x : ℕ) → isZero (at ns x) ≡ false → sgn (at (termOf ns x) 9) ≡ positive
 unfolding termOf
-term-above ns x h = above-reduced (tab 10 (termAt ns x)) 9 (ab-as (at-tab 10 (termAt ns x) 9 (lit< tt) ∙ sym (term-last ns x)) (turned-above (at ns x) h))
-
-pub bound-above : (c : ℤ) → Above (at (boundOf c) 9)
-unfolding boundOf
-bound-above c = record { n = 0; is = refl }
+term-above ns x h = sgn-reduced (tab 10 (termAt ns x)) 9 ∙ raw-above ns x h
 
 mid-raw-last : (t u : List ℤ) → at (midOf t u) 9 ≡ pos 2 *ℤ at t 9 *ℤ at u 9
 unfolding midOf
 mid-raw-last t u = at-tab 10 (midAt t u) 9 (lit< tt) ∙ sym (mid-last t u)
 
-pub mid-above : (t u : List ℤ) → Above (at t 9) → Above (at u 9) → Above (at (midpoint t u) 9)
+pub mid-raw-above : (t u : List ℤ) → sgn (at t 9) ≡ positive → sgn (at u 9) ≡ positive → sgn (at (midOf t u) 9) ≡ positive
+unfolding sgn _⊗_
+mid-raw-above t u h k = ap sgn (mid-raw-last t u) ∙ up-⊗ (pos 2 *ℤ at t 9) (at u 9) (up-⊗ (pos 2) (at t 9) refl h) k
+
+pub mid-above : (t u : List ℤ) → sgn (at t 9) ≡ positive → sgn (at u 9) ≡ positive → sgn (at (midpoint t u) 9) ≡ positive
 unfolding midpoint
-mid-above t u h k = above-reduced (midOf t u) 9 (ab-as (mid-raw-last t u) (ab-* (ab-* (record { n = 1; is = refl }) h) k))
+mid-above t u h k = sgn-reduced (midOf t u) 9 ∙ mid-raw-above t u h k
 
 -- ---- midpoint i with i is the term
 
+double : (x d : ℤ) → x *ℤ d +ℤ x *ℤ d ≡ x *ℤ (pos 2 *ℤ d)
+unfolding _⊕_ _⊗_
+double x d = sealed
+  where
+    sealed : x ⊗ d ⊕ x ⊗ d ≡ x ⊗ (pos 2 ⊗ d)
+    sealed = simp (two-⊗, ring)
+
 module _ (t : List ℤ) (n : ℕ) (e : at t 9 ≡ pos (suc n)) where
   same-number : (i : ℕ) → (i ≡ 9) ⊎ (i < 9) → midAt t t i ≡ at t i *ℤ pos (2 * suc n)
-  same-number i (inl q) =
-      ap (midAt t t) q ∙ sym (mid-last t t) ∙ ring₁ (at t 9) (λ d. con (pos 2) ⊗ d ⊗ d ≐ d ⊗ (con (pos 2) ⊗ d)) refl
-      ∙ ap₂ (λ (y z : ℤ). y *ℤ (pos 2 *ℤ z)) (ap (at t) (sym q)) e
-  same-number i (inr h) =
-      sym (mid-low t t i h) ∙ ring₂ (at t i) (at t 9) (λ x d. x ⊗ d ⊕ x ⊗ d ≐ x ⊗ (con (pos 2) ⊗ d)) refl ∙ ap (λ (z : ℤ). at t i *ℤ (pos 2 *ℤ z)) e
+  same-number i (inl q) = ap (midAt t t) q ∙ sym (mid-last t t) ∙ *ℤ-comm (pos 2 *ℤ at t 9) (at t 9) ∙ ap₂ (λ (y z : ℤ). y *ℤ (pos 2 *ℤ z)) (ap (at t) (sym q)) e
+  same-number i (inr h) = sym (mid-low t t i h) ∙ double (at t i) (at t 9) ∙ ap (λ (z : ℤ). at t i *ℤ (pos 2 *ℤ z)) e
 
   mid-times : length t ≡ 10 → midOf t t ≡ times (2 * suc n) t
   unfolding midOf
@@ -177,9 +159,9 @@ module _ (t : List ℤ) (n : ℕ) (e : at t 9 ≡ pos (suc n)) where
       (λ i h. let k : i < 10 = subst (λ (m : ℕ). i < m) (length-tab 10 (midAt t t)) h in
       at-tab 10 (midAt t t) i k ∙ same-number i (N.eq-or-lt-of-le (N.le-of-suc-le-suc k)) ∙ sym (at-times (2 * suc n) t i))
 
-pub mid-self : (t : List ℤ) → length t ≡ 10 → Above (at t 9) → reduced t ≡ t → midpoint t t ≡ t
+pub mid-self : (t : List ℤ) → length t ≡ 10 → sgn (at t 9) ≡ positive → reduced t ≡ t → midpoint t t ≡ t
 unfolding midpoint
-mid-self t l a r = ap reduced (mid-times t (a .n) (a .is) l) ∙ reduced-scale (2 * suc (a .n)) t (omega arith) ∙ r
+mid-self t l a r = let m = above-pos (at t 9) a in ap reduced (mid-times t (m .0) (m .1) l) ∙ reduced-scale (2 * suc (m .0)) t (omega arith) ∙ r
 
 -- ---- turning each sign of an atom leaves its boundary term as it is
 
@@ -193,7 +175,7 @@ left-minus ns x i = go (eqb i x)
 
 turn-twice : (b : Bool) (z : ℤ) → turned (not b) (negℤ z) ≡ turned b z
 turn-twice true z = refl
-turn-twice false z = ring₁ z (λ x. ⊖ (⊖ x) ≐ x) refl
+turn-twice false z = negℤ-negℤ z
 
 neg-below : (a : ℤ) → isZero a ≡ false → ltZ (negℤ a) (pos 0) ≡ not (ltZ a (pos 0))
 neg-below (pos zero) h = absurd (subst T h tt)
@@ -216,7 +198,7 @@ term-minus ns x h = ap reduced (tab-ext 10 (termAt (minus ns) x) (termAt ns x) (
 -- ---- the two atoms of a WINDOW have the terms lo/1 and hi/1
 
 -- number i of ± v + c with v left out
-left-single : (v : ℕ) (a c : ℤ) (i : ℕ) → v < 8 → i < 9 → leftAt (single v a c) v i ≡ cond (eqb i 8) c (pos 0)
+pub left-single : (v : ℕ) (a c : ℤ) (i : ℕ) → v < 8 → i < 9 → leftAt (single v a c) v i ≡ cond (eqb i 8) c (pos 0)
 unfolding leftAt
 left-single v a c i h k = ap (cond (eqb i v) (pos 0)) (at-single v a c i k) ∙ go (eqb i v) (eqb i 8) refl refl
   where
@@ -224,6 +206,16 @@ left-single v a c i h k = ap (cond (eqb i v) (pos 0)) (at-single v a c i k) ∙ 
     go true true p q = let m = eqb-true i v p in let n = eqb-true i 8 q in absurd (omega arith)
     go true false p q = refl
     go false d p q = refl
+
+pub at-bound : (c : ℤ) (i : ℕ) → i < 10 → at (boundOf c) i ≡ cond (eqb i 9) (pos 1) (cond (eqb i 8) c (pos 0))
+unfolding boundOf
+at-bound c i h =
+    at-set (set (replicate 10 (pos 0)) 8 c) 9 (pos 1) i (rw (length-set (replicate 10 (pos 0)) 8 c) h)
+    ∙ ap (cond (eqb i 9) (pos 1)) (at-set (replicate 10 (pos 0)) 8 c i h ∙ ap (cond (eqb i 8) c) (getD-replicate 10 i (pos 0) (pos 0) h))
+
+bound-reduced : (c : ℤ) → reduced (boundOf c) ≡ boundOf c
+unfolding boundOf
+bound-reduced c = unit-reduced (boundOf c) 9 refl
 
 side-below : (s : Bool) → ltZ (turned s (pos 1)) (pos 0) ≡ s
 side-below true = refl

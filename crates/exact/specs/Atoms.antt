@@ -1,7 +1,7 @@
 -- 01, 'Copies', for one atom: at a point it comes out true, false or as one new atom. `putOf` and `spotOf` say what each case of the code's
 -- enums stands for.
 use Prim.Native.Nat.{ℕ, _<_}
-use mathlib.Core.Bool.{Bool, true, false, not, _&&_}
+use mathlib.Core.Bool.{Bool, true, false, not, _&&_, cond}
 use mathlib.Core.List.{List, [], _∷_}
 use lib.Dec.{eqb}
 use lib.ListN.{take, replicate}
@@ -9,11 +9,9 @@ use lib.IntN.{ℤ, pos, _+ℤ_, _*ℤ_}
 use lib.Signed.{ltZ, leZ}
 use Rattle.reading.specs.Limits.{M, variables}
 use Rattle.reading.specs.Formula.{Comparison, less, atmost, equal}
-use Rattle.reading.specs.Records.{pick}
 use Rattle.exact.specs.Numbers.{at, tab, Each, isZero, allIn}
 use Rattle.exact.specs.Divisor.{reduced}
 use Rattle.exact.specs.Terms.{leftAt}
-use Rattle.exact.specs.declared.Outcome.{Outcome}
 use Rattle.exact.specs.declared.Outcome.the-variants.{True, False, New}
 use Rattle.exact.specs.declared.PointKind.{PointKind}
 use Rattle.exact.specs.declared.PointKind.the-variants.{Below, Above, Here, Nowhere}
@@ -27,12 +25,12 @@ holds atmost z = leZ z (pos 0)
 holds equal z = isZero z
 
 -- no variable is left: each of the eight coefficients is 0
-unfoldable pub zeros : List ℤ → Bool
-zeros [] = true
-zeros (z ∷ l) = isZero z && zeros l
+unfoldable pub allZero : List ℤ → Bool
+allZero [] = true
+allZero (z ∷ l) = isZero z && allZero l
 
 abbrev pub noVariable : List ℤ → Bool
-noVariable ns = zeros (take variables ns)
+noVariable ns = allZero (take variables ns)
 
 -- what an atom comes out as: decided, or the nine numbers of the new atom
 pub data Came : Type 0 where
@@ -41,8 +39,8 @@ pub data Came : Type 0 where
 
 -- with no variable left the atom is true or false; otherwise the nine numbers are divided by their greatest common divisor
 unfoldable pub settled : Comparison → List ℤ → Came
-unfolding zeros reduced
-settled c ns = pick (noVariable ns) (sure (holds c (at ns 8))) (new (reduced ns))
+unfolding allZero reduced
+settled c ns = cond (noVariable ns) (sure (holds c (at ns 8))) (new (reduced ns))
 
 -- where an atom is taken: at a point of the variable x, which is −∞, +∞ or the fraction of ten numbers; or as it stands, in the finishing pass
 pub data Spot : Type 0 where
@@ -69,9 +67,9 @@ farOf equal falls = false
 unfoldable pub atomAt : Spot → Comparison → List ℤ → Came
 unfolding settled pointOf
 atomAt nowhere c ns = settled c ns
-atomAt (below x) c ns = pick (isZero (at ns x)) (settled c ns) (sure (farOf c (not (ltZ (at ns x) (pos 0)))))
-atomAt (above x) c ns = pick (isZero (at ns x)) (settled c ns) (sure (farOf c (ltZ (at ns x) (pos 0))))
-atomAt (here x n) c ns = pick (isZero (at ns x)) (settled c ns) (settled c (pointOf ns x n))
+atomAt (below x) c ns = cond (isZero (at ns x)) (settled c ns) (sure (farOf c (not (ltZ (at ns x) (pos 0)))))
+atomAt (above x) c ns = cond (isZero (at ns x)) (settled c ns) (sure (farOf c (ltZ (at ns x) (pos 0))))
+atomAt (here x n) c ns = cond (isZero (at ns x)) (settled c ns) (settled c (pointOf ns x n))
 
 -- whether the numbers of a new atom lie in −M..M
 abbrev pub fitting : Came → Bool
@@ -82,11 +80,11 @@ fitting (new ns) = allIn M ns
 
 -- the comparison of the kind k: 1 LESS, 2 ATMOST, 3 EQUAL
 abbrev pub comparisonOf : ℕ → Comparison
-comparisonOf k = pick (eqb k 1) less (pick (eqb k 2) atmost equal)
+comparisonOf k = cond (eqb k 1) less (cond (eqb k 2) atmost equal)
 
 -- decided: true or false, with zeros beside it; or new: its nine numbers, and whether they lie in −M..M
 abbrev pub putOf : Came → Put
-putOf (sure b) = record { outcome = pick b True False; fits = true; nums = replicate 9 (pos 0) }
+putOf (sure b) = record { outcome = cond b True False; fits = true; nums = replicate 9 (pos 0) }
 putOf (new ns) = record { outcome = New; fits = allIn M ns; nums = ns }
 
 -- −∞, +∞, the fraction, or none

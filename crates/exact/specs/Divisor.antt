@@ -25,11 +25,11 @@ unfolding gcdFrom
 gcds l = gcdFrom 0 l
 
 -- each number divided by g; a row divided by its divisor. Zeros, whose divisor is 0, stay as they are
-abbrev pub over : ℕ → ℤ → ℤ
-over g z = quotZ z (pos g)
+abbrev pub dividedBy : ℕ → ℤ → ℤ
+dividedBy g z = quotZ z (pos g)
 
 unfoldable pub quots : ℕ → List ℤ → List ℤ
-quots g l = map (over g) l
+quots g l = map (dividedBy g) l
 
 unfoldable pub reduced : List ℤ → List ℤ
 unfolding quots gcds

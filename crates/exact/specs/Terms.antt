@@ -1,7 +1,7 @@
 -- 01, 'Boundary terms' and the midpoint of 'Points'. A term is ten numbers: eight coefficients, a constant, and a denominator above 0.
 use Prim.Native.Nat.{ℕ}
 use mathlib.Core.Bool.{Bool, true, false, not, cond}
-use mathlib.Core.List.{List, []}
+use mathlib.Core.List.{List}
 use lib.Dec.{ltb, eqb}
 use lib.ListN.{set, replicate}
 use lib.IntN.{ℤ, pos, negℤ, _+ℤ_, _*ℤ_}

@@ -8,7 +8,6 @@ use crate::row;
 use crate::term;
 ghost use mathlib.Core.Path.{_≡_};
 ghost use Prim.Native.Nat.{_<_};
-ghost use mathlib.Core.Bool.{not};
 ghost use lib.ListN.{length};
 ghost use Rattle.reading.specs.Limits.{M, variables};
 ghost use Rattle.exact.specs.Numbers.{Each};

@@ -7,7 +7,7 @@ ghost use lib.ListN.{length};
 ghost use Rattle.reading.specs.Limits.{M};
 ghost use Rattle.exact.specs.Numbers.{Each, allIn, sameRow, minus, single};
 ghost use Rattle.exact.specs.Divisor.{gcds, quots, reduced};
-ghost use Rattle.exact.specs.Atoms.{zeros};
+ghost use Rattle.exact.specs.Atoms.{allZero};
 
 // The greatest common divisor of the numbers of a row.
 pub fn gcd_all(s: &[i64]) -> u64
@@ -70,7 +70,7 @@ pub fn within_all(s: &[i64]) -> bool
 
 // Whether each number of a row is 0.
 pub fn all_zero(s: &[i64]) -> bool
-    ensures { λ r. ⌜ r ≡ zeros (now (s .entry)) ⌝ }
+    ensures { λ r. ⌜ r ≡ allZero (now (s .entry)) ⌝ }
 {
     let mut i = 0;
     while i < s.len() {

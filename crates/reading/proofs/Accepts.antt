@@ -9,10 +9,10 @@ use lib.ListN.{length}
 use lib.Seq.{take-all}
 use lib.Dec.{ltb}
 use borrow.Author.Tests.{le-ltb, ltb-false}
-use mathlib.Core.Bool.{Bool, true, false}
+use mathlib.Core.Bool.{Bool, true, false, cond}
 use Rattle.reading.specs.Bytes.{Bytes}
+use Rattle.reading.specs.AnswerNumbers.{longSheet, bytesAfter}
 use Rattle.reading.specs.Formula.{Formula, encode, Fits}
-use Rattle.reading.specs.Records.{pick}
 use Rattle.reading.specs.Reading.{Read, formulaIn, good, fault}
 use Rattle.reading.specs.Answers.{wholeOf, reading}
 use Rattle.reading.specs.declared.Reply.the-variants.{Done, Refused}
@@ -27,16 +27,16 @@ accepted limit d s k ok h = first (ltb limit (length s)) refl h
     clash : (e p : ℕ) → Refused e p ≡ Done k → ⊥
     clash e p h = let z : _≡_ {A = ℕ} 0 1 = cc in omega arith
 
-    last : (f : Formula) (j : ℕ) (b : Bool) → ltb j (length s) ≡ b → Right d s (good f j) → pick b (Refused 9 j) (Done j) ≡ Done k → (f : Formula) × Fits d f × (s ≡ encode f)
-    last f j true e r h = absurd (clash 9 j h)
+    last : (f : Formula) (j : ℕ) (b : Bool) → ltb j (length s) ≡ b → Right d s (good f j) → cond b (Refused bytesAfter j) (Done j) ≡ Done k → (f : Formula) × Fits d f × (s ≡ encode f)
+    last f j true e r h = absurd (clash bytesAfter j h)
     last f j false e r h = (f, r .1, sym (take-all j s (ltb-false j (length s) e)) ∙ r .0)
 
     whole : (o : Read Formula) → Right d s o → wholeOf (length s) o ≡ Done k → (f : Formula) × Fits d f × (s ≡ encode f)
     whole (good f j) r h = last f j (ltb j (length s)) refl r h
     whole (fault e p) r h = absurd (clash e p h)
 
-    first : (b : Bool) → ltb limit (length s) ≡ b → pick b (Refused 2 0) (wholeOf (length s) (formulaIn d s)) ≡ Done k → (f : Formula) × Fits d f × (s ≡ encode f) × (length s ≤ limit)
-    first true e h = absurd (clash 2 0 h)
+    first : (b : Bool) → ltb limit (length s) ≡ b → cond b (Refused longSheet 0) (wholeOf (length s) (formulaIn d s)) ≡ Done k → (f : Formula) × Fits d f × (s ≡ encode f) × (length s ≤ limit)
+    first true e h = absurd (clash longSheet 0 h)
     first false e h = let w = whole (formulaIn d s) (formulaIn-right d s ok) h in (w .0, w .1, w .2, ltb-false limit (length s) e)
 
 -- and each such sheet is accepted

@@ -1,14 +1,14 @@
 -- 01, 'Sheets with known results' and 'Answers and their order': worked sheets, their answers under the limits of a sheet, and what is
 -- looked at. Each is computed from the definitions. Assumes nothing.
 use mathlib.Core.Path.{_≡_, refl}
-use mathlib.Core.Bool.{Bool, true, false}
+use mathlib.Core.Bool.{true, false}
 use mathlib.Core.List.{List, [], _∷_, _++_, map}
 use Prim.Native.Nat.{ℕ, zero, suc, _+_}
-use lib.ListN.{take, drop}
+use lib.ListN.{take}
 use lib.IntN.{ℤ, pos, negsuc}
 use Rattle.reading.specs.Limits.{M, sheetBytes, sheetLevels}
 use Rattle.reading.specs.Bytes.{int4, ints, intBytes}
-use Rattle.reading.specs.Formula.{Formula, Formulas, less, atmost, equal, atom, not, list, quant, window, none, more, fieldBytes, recordBytes, encode}
+use Rattle.reading.specs.Formula.{Formula, less, atmost, atom, not, list, quant, window, none, more, fieldBytes, recordBytes, encode}
 use Rattle.reading.specs.Records.{kindOf, sized, inM, allM, byKind, head}
 use Rattle.reading.specs.Reading.{formulasIn, formulaIn}
 use Rattle.reading.specs.Answers.{reading, answerOf}
@@ -64,7 +64,7 @@ unfolding int4 ints intBytes fieldBytes recordBytes encode kindOf sized inM allM
 answers = refl
 
 -- the first bytes on disk, as 01's table of records has them: EVERY x, ANYOF of 3, NOT
-pub on-disk : take 16 (encode window-sheet) ≡ 6 ∷ 0 ∷ 8 ∷ 0 ∷ 0 ∷ 0 ∷ 6 ∷ 0 ∷ 6 ∷ 0 ∷ 3 ∷ 0 ∷ 4 ∷ 0 ∷ 4 ∷ 0 ∷ []
+on-disk : take 16 (encode window-sheet) ≡ 6 ∷ 0 ∷ 8 ∷ 0 ∷ 0 ∷ 0 ∷ 6 ∷ 0 ∷ 6 ∷ 0 ∷ 3 ∷ 0 ∷ 4 ∷ 0 ∷ 4 ∷ 0 ∷ []
 unfolding intBytes fieldBytes recordBytes encode
 on-disk = refl
 

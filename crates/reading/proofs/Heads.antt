@@ -11,7 +11,7 @@ use borrow.Author.Tests.{le-ltb, ne-eqb}
 use mathlib.Core.Bool.{Bool, true, false}
 use Rattle.reading.specs.Bytes.{le2}
 use Rattle.reading.specs.Formula.{Comparison, comparisonNo, listNo, quantNo, less, atmost, equal}
-use Rattle.reading.specs.Records.{kindOf, byKind, head, atomK, notK, listK, quantK, windowK, unknown}
+use Rattle.reading.specs.Records.{kindOf, byKind, head, atomK, notK, listK, quantK, windowK, unknownK}
 
 -- a number from a on, below a + 1, a + 2, a + 3
 in-one : (P : ℕ → Type 0) (a : ℕ) → P a → (k : ℕ) → a ≤ k → k < suc a → P k
@@ -44,11 +44,11 @@ pub kind-window : {k : ℕ} → k ≡ 9 → kindOf k ≡ windowK
 unfolding kindOf
 kind-window e = rw e
 
-pub kind-zero : {k : ℕ} → k ≡ 0 → kindOf k ≡ unknown
+pub kind-zero : {k : ℕ} → k ≡ 0 → kindOf k ≡ unknownK
 unfolding kindOf
 kind-zero e = rw e
 
-pub kind-unknown : (k : ℕ) → 9 < k → kindOf k ≡ unknown
+pub kind-unknown : (k : ℕ) → 9 < k → kindOf k ≡ unknownK
 unfolding kindOf
 kind-unknown k h =
     simp (ne-eqb k 1 (omega arith), ne-eqb k 2 (omega arith), ne-eqb k 3 (omega arith), ne-eqb k 4 (omega arith), ne-eqb k 5 (omega arith), ne-eqb k 6 (omega arith), ne-eqb k 7 (omega arith), ne-eqb k 8 (omega arith), ne-eqb k 9 (omega arith))

@@ -147,11 +147,11 @@ record-read (windowL v lo hi) u r =
     ∙ simp (le-ltb (length s) 14 (omega (arith, length-append (recordBytes (windowL v lo hi)) u, record-long (windowL v lo hi) r)), two v (omega arith), le-leb v lastVariable (r .0), allM-read (lo ∷ hi ∷ []) p u 6 refl (r .1), w .0, w .1)
 
 -- a record and then formulas that are read
-under-read : (l : Label) (d : ℕ) (u : List ℕ) (fs : Formulas) (k : ℕ) → 1 ≤ d → InRange l → formulasIn (formulaIn (d - 1)) (follow l) u ≡ good fs k
+headed-read : (l : Label) (d : ℕ) (u : List ℕ) (fs : Formulas) (k : ℕ) → 1 ≤ d → InRange l → formulasIn (formulaIn (d - 1)) (follow l) u ≡ good fs k
     → formulaIn d (recordBytes l ++ u) ≡ good (build l fs) (length (recordBytes l) + k)
 unfolding formulaIn
-under-read l zero u fs k h r e = absurd (omega arith)
-under-read l (suc d) u fs k h r e =
+headed-read l zero u fs k h r e = absurd (omega arith)
+headed-read l (suc d) u fs k h r e =
     rw (record-read l u r, ← record-long l r, drop-append-seam (recordBytes l) u, record-long l r) (rw (← sub-one (suc d), e))
 
 one-read : (rd : List ℕ → Read Formula) (u : List ℕ) (f : Formula) (k : ℕ) → rd u ≡ good f k → formulasIn rd 1 u ≡ good (more f none) k
@@ -163,17 +163,17 @@ mutual
   unfolding encode formulasIn
 
   pub reads : (f : Formula) (d : ℕ) (t : List ℕ) → Fits d f → formulaIn d (encode f ++ t) ≡ good f (length (encode f))
-  reads (atom c ns) d t w = under-read (atomL c ns) d t none 0 (w .0) (w .1) refl ∙ ap (good (atom c ns)) (add-zero (length (recordBytes (atomL c ns))))
+  reads (atom c ns) d t w = headed-read (atomL c ns) d t none 0 (w .0) (w .1) refl ∙ ap (good (atom c ns)) (add-zero (length (recordBytes (atomL c ns))))
   reads (not f) d t w =
       rw (append-assoc (recordBytes notL) (encode f) t, length-append (recordBytes notL) (encode f))
-      (under-read notL d (encode f ++ t) (more f none) (length (encode f)) (w .0) tt (one-read (formulaIn (d - 1)) (encode f ++ t) f (length (encode f)) (reads f (d - 1) t (w .1))))
+      (headed-read notL d (encode f ++ t) (more f none) (length (encode f)) (w .0) tt (one-read (formulaIn (d - 1)) (encode f ++ t) f (length (encode f)) (reads f (d - 1) t (w .1))))
   reads (list b fs) d t w =
       rw (append-assoc (recordBytes (listL b (count fs))) (encodes fs) t, length-append (recordBytes (listL b (count fs))) (encodes fs))
-      (under-read (listL b (count fs)) d (encodes fs ++ t) fs (length (encodes fs)) (w .0) (w .1) (reads-all fs (d - 1) t (w .2)))
+      (headed-read (listL b (count fs)) d (encodes fs ++ t) fs (length (encodes fs)) (w .0) (w .1) (reads-all fs (d - 1) t (w .2)))
   reads (quant b v f) d t w =
       rw (append-assoc (recordBytes (quantL b v)) (encode f) t, length-append (recordBytes (quantL b v)) (encode f))
-      (under-read (quantL b v) d (encode f ++ t) (more f none) (length (encode f)) (w .0) (w .1) (one-read (formulaIn (d - 1)) (encode f ++ t) f (length (encode f)) (reads f (d - 1) t (w .2))))
-  reads (window v lo hi) d t w = under-read (windowL v lo hi) d t none 0 (w .0) (w .1) refl ∙ ap (good (window v lo hi)) (add-zero (length (recordBytes (windowL v lo hi))))
+      (headed-read (quantL b v) d (encode f ++ t) (more f none) (length (encode f)) (w .0) (w .1) (one-read (formulaIn (d - 1)) (encode f ++ t) f (length (encode f)) (reads f (d - 1) t (w .2))))
+  reads (window v lo hi) d t w = headed-read (windowL v lo hi) d t none 0 (w .0) (w .1) refl ∙ ap (good (window v lo hi)) (add-zero (length (recordBytes (windowL v lo hi))))
 
   pub reads-all : (fs : Formulas) (d : ℕ) (t : List ℕ) → AllFit d fs → formulasIn (formulaIn d) (count fs) (encodes fs ++ t) ≡ good fs (length (encodes fs))
   reads-all none d t w = refl

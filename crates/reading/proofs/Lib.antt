@@ -1,7 +1,9 @@
--- The laws of reading, each group resting on those above it: numbers and records (Signed, Ints, Heads, Cases), a formula and a whole sheet as
--- the code reads them (Reading, Whole), the numbers of its refusals (Refusals), what is written is read and what is read was written (Laws, Sound, Accepts, Trees), the first and
+-- The laws of reading, each group resting on those above it: numbers and records (Signed, Filling, Ints, Heads, Cases), a formula and a whole sheet as
+-- the code reads them (Reading, Whole), the numbers of its refusals (Refusals), what is written is read and what is read was written (Laws, Lengths, Sound, Accepts, Trees), the walk over
+-- the parts of a formula and what each record says (Walking, Viewing), the first and
 -- the last quantifier and the look (Places, Scan, Looking), and that each promise allows one reply (Unique). Examples are worked sheets.
 pub mod Signed
+pub mod Filling
 pub mod Ints
 pub mod Heads
 pub mod Cases
@@ -9,9 +11,12 @@ pub mod Reading
 pub mod Whole
 pub mod Refusals
 pub mod Laws
+pub mod Lengths
 pub mod Sound
 pub mod Accepts
 pub mod Trees
+pub mod Walking
+pub mod Viewing
 pub mod Places
 pub mod Scan
 pub mod Looking

@@ -4,12 +4,11 @@ use mathlib.Core.Path.{_≡_, refl, sym, _∙_, ap, ap₂, subst}
 use mathlib.Core.List.{List, []}
 use mathlib.Core.Logic.{_↔_}
 use Prim.Native.Nat.{ℕ, _+_, _-_, _≤_}
-use native.Mathlib.Nat.{le-refl}
 use native.Mathlib.Omega.{arith}
 use lib.ListN.{length, take, drop}
 use lib.Seq.{take-append-seam}
 use mathlib.Core.Bool.{Bool, true}
-use Rattle.reading.specs.Limits.{resultBytes, resultLevels}
+use Rattle.reading.specs.Limits.{resultBytes, resultLevels, treeLevels}
 use Rattle.reading.specs.Bytes.{Bytes}
 use Rattle.reading.specs.Formula.{Formula, fieldBytes, recordBytes, encode, Fits, Free, quant, quantL}
 use Rattle.reading.specs.Reading.{formulaIn, treeOf, Begins, Exactly}
@@ -19,7 +18,8 @@ use Rattle.reading.specs.declared.Found.the-variants.{At, Nothing}
 use Rattle.reading.specs.declared.Reply.{Reply}
 use Rattle.reading.specs.declared.Reply.the-variants.{Done, Refused}
 use Rattle.reading.specs.declared.Part.{Part}
-use Rattle.reading.proofs.Trees.{encode-long, fits-more, begins, begins-read, accepted-exactly}
+use Rattle.reading.proofs.Lengths.{four-long}
+use Rattle.reading.proofs.Trees.{fits-more, accepted-read, accepted-exactly}
 use Rattle.reading.proofs.Places.{Stands, Stood, stands-right, stands-drop, stands-within, found-splits, last-free}
 
 -- ---- the quantifier that a search finds at o, and its body
@@ -30,16 +30,16 @@ pub record Body (last : Bool) (s : List ℕ) (o : ℕ) : Type 0 where
   pub body : Formula
   pub is : seek last nothing 0 (treeOf s) ≡ at o every variable body
   pub stands : Stands s o (encode (quant every variable body))
-  pub fits : Fits resultLevels (quant every variable body)
+  pub fits : Fits treeLevels (quant every variable body)
   pub begins : Begins (drop (o + 6) s) body
   pub within : o + 6 + length (encode body) ≤ length s
 
 -- where a search finds o, the record there is that of a quantifier, and its body begins six bytes later
 pub body-at : (last : Bool) {s : List ℕ} {o : ℕ} → Exactly s (treeOf s) → foundOf (seek last nothing 0 (treeOf s)) ≡ At o → Body last s o
 unfolding encode recordBytes fieldBytes
-body-at last {s} {o} x e = go (seek last nothing 0 (treeOf s)) refl (subst (λ (t : List ℕ). Stood resultLevels t (seek last nothing 0 (treeOf s))) (sym (x .bytes)) (found-splits last resultLevels (treeOf s) (x .fits))) e
+body-at last {s} {o} x e = go (seek last nothing 0 (treeOf s)) refl (subst (λ (t : List ℕ). Stood treeLevels t (seek last nothing 0 (treeOf s))) (sym (x .bytes)) (found-splits last treeLevels (treeOf s) (x .fits))) e
   where
-    go : (q : Quantifier) → seek last nothing 0 (treeOf s) ≡ q → Stood resultLevels s q → foundOf q ≡ At o → Body last s o
+    go : (q : Quantifier) → seek last nothing 0 (treeOf s) ≡ q → Stood treeLevels s q → foundOf q ≡ At o → Body last s o
     go nothing f h e = let z : _≡_ {A = ℕ} 0 1 = cc in absurd (omega arith)
     go (at p b v g) f h e =
         let k : p ≡ o = cc in
@@ -52,16 +52,16 @@ body-at last {s} {o} x e = go (seek last nothing 0 (treeOf s)) refl (subst (λ (
           is = f ∙ ap (λ (n : ℕ). at n b v g) k;
           stands = w;
           fits = h .1;
-          begins = record { rest = r .after; bytes = stands-drop r; fits = fits-more g (resultLevels - 1) resultLevels (omega arith) (h .1 .2) };
+          begins = record { rest = r .after; bytes = stands-drop r; fits = fits-more g (treeLevels - 1) treeLevels (omega arith) (h .1 .2) };
           within = stands-within r;
         }
 
 -- ---- the part that is looked at
 
 -- in an accepted sheet it is the body of the last quantifier
-pub look-accepted : {s : List ℕ} {k : ℕ} → Exactly s (treeOf s) → reading resultBytes resultLevels s ≡ Done k → lookPart s ≡ bodyPart (lastIn (treeOf s))
+pub look-accepted : (s : List ℕ) {k : ℕ} → Bytes s → reading resultBytes resultLevels s ≡ Done k → lookPart s ≡ bodyPart (lastIn (treeOf s))
 unfolding lookPart
-look-accepted x h = ap₂ partIn h (begins-read (begins x))
+look-accepted s ok h = ap₂ partIn h (accepted-read resultBytes resultLevels s (omega arith) ok h)
 
 -- in a refused sheet there is none
 pub look-refused : (s : List ℕ) {n p : ℕ} → reading resultBytes resultLevels s ≡ Refused n p → lookPart s ≡ record { at = 0; length = 0 }
@@ -74,8 +74,8 @@ look-nothing nothing e = refl
 look-nothing (at o b v f) e = let z : _≡_ {A = ℕ} 0 1 = cc in absurd (omega arith)
 
 -- where one is found, its bounds
-pub look-body : {s : List ℕ} {k o : ℕ} → reading resultBytes resultLevels s ≡ Done k → Exactly s (treeOf s) → (w : Body true s o) → lookPart s ≡ record { at = o + 6; length = length (encode (w .body)) }
-look-body h x w = look-accepted x h ∙ ap bodyPart (w .is)
+pub look-body : {s : List ℕ} {k o : ℕ} → reading resultBytes resultLevels s ≡ Done k → Bytes s → (w : Body true s o) → lookPart s ≡ record { at = o + 6; length = length (encode (w .body)) }
+look-body {s} h ok w = look-accepted s ok h ∙ ap bodyPart (w .is)
 
 -- ---- the look
 
@@ -84,18 +84,18 @@ pub look-within : (s : List ℕ) → Bytes s → lookPart s .at + lookPart s .le
 look-within s ok = go (reading resultBytes resultLevels s) refl
   where
     found : (q : Quantifier) {k : ℕ} → lastIn (treeOf s) ≡ q → reading resultBytes resultLevels s ≡ Done k → Exactly s (treeOf s) → lookPart s .at + lookPart s .length ≤ length s
-    found nothing e h x = rw (look-accepted x h, e) (omega arith)
-    found (at o b v g) e h x = let w = body-at true x (ap foundOf e) in rw (look-body h x w) (w .within)
+    found nothing e h x = rw (look-accepted s ok h, e) (omega arith)
+    found (at o b v g) e h x = let w = body-at true x (ap foundOf e) in rw (look-body h ok w) (w .within)
 
     go : (r : Reply) → reading resultBytes resultLevels s ≡ r → lookPart s .at + lookPart s .length ≤ length s
-    go (Done k) h = found (lastIn (treeOf s)) refl h (accepted-exactly resultBytes resultLevels s (le-refl resultLevels) ok h)
+    go (Done k) h = found (lastIn (treeOf s)) refl h (accepted-exactly resultBytes resultLevels s (omega arith) ok h)
     go (Refused n p) h = rw (look-refused s h) (omega arith)
 
 -- the look at a body that is found: its bytes
-look-bytes : {s : List ℕ} {k o : ℕ} → reading resultBytes resultLevels s ≡ Done k → Exactly s (treeOf s) → (w : Body true s o) → look s ≡ encode (w .body)
+look-bytes : {s : List ℕ} {k o : ℕ} → reading resultBytes resultLevels s ≡ Done k → Bytes s → (w : Body true s o) → look s ≡ encode (w .body)
 unfolding look
-look-bytes {s} h x w =
-    ap (λ (p : Part). take (p .length) (drop (p .at) s)) (look-body h x w)
+look-bytes {s} h ok w =
+    ap (λ (p : Part). take (p .length) (drop (p .at) s)) (look-body h ok w)
     ∙ ap (take (length (encode (w .body)))) (w .begins .bytes)
     ∙ take-append-seam (encode (w .body)) (w .begins .rest)
 
@@ -114,15 +114,15 @@ pub look-shows : (s : List ℕ) → Bytes s → Shown (look s) (reading resultBy
 look-shows s ok = go (reading resultBytes resultLevels s) refl
   where
     found : {k : ℕ} (q : Quantifier) → lastIn (treeOf s) ≡ q → reading resultBytes resultLevels s ≡ Done k → Exactly s (treeOf s) → Shown (look s) (Done k) q
-    found nothing e h x = look-none s (look-accepted x h ∙ ap bodyPart e)
+    found nothing e h x = look-none s (look-accepted s ok h ∙ ap bodyPart e)
     found (at o b v g) e h x =
         let w = body-at true x (ap foundOf e) in
         let i : w .body ≡ g = let j = sym (w .is) ∙ e in cc in
-        let l = look-bytes h x w ∙ ap encode i in
-        (l, last-free (treeOf s) o b v g e, rw l (encode-long g resultLevels (subst (Fits resultLevels) i (w .begins .fits))))
+        let l = look-bytes h ok w ∙ ap encode i in
+        (l, last-free (treeOf s) o b v g e, rw l (four-long g))
 
     go : (r : Reply) → reading resultBytes resultLevels s ≡ r → Shown (look s) r (lastIn (treeOf s))
-    go (Done k) h = found (lastIn (treeOf s)) refl h (accepted-exactly resultBytes resultLevels s (le-refl resultLevels) ok h)
+    go (Done k) h = found (lastIn (treeOf s)) refl h (accepted-exactly resultBytes resultLevels s (omega arith) ok h)
     go (Refused n p) h = look-none s (look-refused s h)
 
 -- a refused sheet, or a formula without quantifiers

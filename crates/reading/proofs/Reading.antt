@@ -8,9 +8,10 @@ use native.Mathlib.Numerals.{sub-one}
 use native.Mathlib.Omega.{arith}
 use lib.ListN.{length, take, drop, length-drop}
 use lib.Seq.{drop-drop, take-all}
+use Rattle.reading.specs.AnswerNumbers.{deepNesting}
 use Rattle.reading.specs.Formula.{Formula, Formulas, Label, size, follow}
 use Rattle.reading.specs.Records.{Record, head, bad, opened}
-use Rattle.reading.specs.Reading.{Read, joined, then, formulasIn, under, tooDeep, body, formulaIn, good, fault}
+use Rattle.reading.specs.Reading.{Read, joined, then, formulasIn, headed, tooDeep, byRecord, formulaIn, good, fault}
 use Rattle.reading.specs.Answers.{headOf, replyOf}
 use Rattle.reading.specs.declared.Head.the-variants.{Bad, Open}
 use Rattle.reading.specs.declared.Reply.{Reply}
@@ -28,9 +29,9 @@ head-held s = head-in (Held (length s)) s (λ e. tt) (λ c l k h m. h) (λ l k h
 
 -- ---- nothing past the end is read, and no place lies there
 
-abbrev pub Within : ℕ → Reply → Type 0
-Within n (Done k) = k ≤ n
-Within n (Refused e p) = p ≤ n
+abbrev pub Inside : ℕ → Reply → Type 0
+Inside n (Done k) = k ≤ n
+Inside n (Refused e p) = p ≤ n
 
 abbrev pub shift : ℕ → Reply → Reply
 shift a (Done k) = Done (a + k)
@@ -41,7 +42,7 @@ pub shift-shift : (a b : ℕ) (r : Reply) → shift a (shift b r) ≡ shift (a +
 shift-shift a b (Done k) = ap Done (sym (add-assoc a b k))
 shift-shift a b (Refused e p) = ap (Refused e) (sym (add-assoc a b p))
 
-shift-within : (a n : ℕ) (r : Reply) → a ≤ n → Within (n - a) r → Within n (shift a r)
+shift-within : (a n : ℕ) (r : Reply) → a ≤ n → Inside (n - a) r → Inside n (shift a r)
 shift-within a n (Done k) h w = omega arith
 shift-within a n (Refused e p) h w = omega arith
 
@@ -49,33 +50,33 @@ pub reply-joined : (f : Formula) (k : ℕ) (o : Read Formulas) → replyOf (join
 reply-joined f k (good fs j) = refl
 reply-joined f k (fault e p) = refl
 
-pub reply-under : (l : Label) (o : Read Formulas) → replyOf (under l o) ≡ shift (size l) (replyOf o)
-reply-under l (good fs j) = refl
-reply-under l (fault e p) = refl
+pub reply-headed : (l : Label) (o : Read Formulas) → replyOf (headed l o) ≡ shift (size l) (replyOf o)
+reply-headed l (good fs j) = refl
+reply-headed l (fault e p) = refl
 
-module _ (rd : List ℕ → Read Formula) (ok : (s : List ℕ) → Within (length s) (replyOf (rd s))) where
-  formulas-within : (n : ℕ) (s : List ℕ) → Within (length s) (replyOf (formulasIn rd n s))
+module _ (rd : List ℕ → Read Formula) (ok : (s : List ℕ) → Inside (length s) (replyOf (rd s))) where
+  formulas-within : (n : ℕ) (s : List ℕ) → Inside (length s) (replyOf (formulasIn rd n s))
   unfolding formulasIn
   formulas-within zero s = omega arith
   formulas-within (suc n) s = go (rd s) (ok s) (λ k. formulas-within n (drop k s))
     where
-      go : (o : Read Formula) → Within (length s) (replyOf o) → ((k : ℕ) → Within (length (drop k s)) (replyOf (formulasIn rd n (drop k s)))) → Within (length s) (replyOf (then o (λ k. formulasIn rd n (drop k s))))
+      go : (o : Read Formula) → Inside (length s) (replyOf o) → ((k : ℕ) → Inside (length (drop k s)) (replyOf (formulasIn rd n (drop k s)))) → Inside (length s) (replyOf (then o (λ k. formulasIn rd n (drop k s))))
       go (good f k) h rest = rw (reply-joined f k (formulasIn rd n (drop k s))) (shift-within k (length s) (replyOf (formulasIn rd n (drop k s))) h (rw (length-drop k s) at (rest k)))
       go (fault e p) h rest = h
 
 -- reading a formula stays in the bytes
-pub formula-within : (d : ℕ) (s : List ℕ) → Within (length s) (replyOf (formulaIn d s))
+pub formula-within : (d : ℕ) (s : List ℕ) → Inside (length s) (replyOf (formulaIn d s))
 unfolding formulaIn
 formula-within zero s = go (head s)
   where
-    go : (r : Record) → Within (length s) (replyOf (tooDeep r))
+    go : (r : Record) → Inside (length s) (replyOf (tooDeep r))
     go (bad e) = omega arith
     go (opened l) = omega arith
 formula-within (suc d) s = go (formulaIn d) (formula-within d) (head s) (head-held s)
   where
-    go : (rd : List ℕ → Read Formula) → ((t : List ℕ) → Within (length t) (replyOf (rd t))) → (r : Record) → Held (length s) r → Within (length s) (replyOf (body rd s r))
+    go : (rd : List ℕ → Read Formula) → ((t : List ℕ) → Inside (length t) (replyOf (rd t))) → (r : Record) → Held (length s) r → Inside (length s) (replyOf (byRecord rd s r))
     go rd ok (bad e) h = omega arith
-    go rd ok (opened l) h = rw (reply-under l (formulasIn rd (follow l) (drop (size l) s))) (shift-within (size l) (length s) (replyOf (formulasIn rd (follow l) (drop (size l) s))) h (rw (length-drop (size l) s) at (formulas-within rd ok (follow l) (drop (size l) s))))
+    go rd ok (opened l) h = rw (reply-headed l (formulasIn rd (follow l) (drop (size l) s))) (shift-within (size l) (length s) (replyOf (formulasIn rd (follow l) (drop (size l) s))) h (rw (length-drop (size l) s) at (formulas-within rd ok (follow l) (drop (size l) s))))
 
 -- ---- what `formula_at` finds, by what a record says
 
@@ -89,15 +90,15 @@ formula-bad zero s e h = go (head s) h
     go (opened l) h = cc
 formula-bad (suc d) s e h = go (head s) h
   where
-    go : (r : Record) → headOf r ≡ Bad e → replyOf (body (formulaIn d) s r) ≡ Refused e 0
+    go : (r : Record) → headOf r ≡ Bad e → replyOf (byRecord (formulaIn d) s r) ≡ Refused e 0
     go (bad y) h = cc
     go (opened l) h = cc
 
-pub formula-deep : (s : List ℕ) (x a b : ℕ) → headOf (head s) ≡ Open x a b → replyOf (formulaIn 0 s) ≡ Refused 8 0
+pub formula-deep : (s : List ℕ) (x a b : ℕ) → headOf (head s) ≡ Open x a b → replyOf (formulaIn 0 s) ≡ Refused deepNesting 0
 unfolding formulaIn
 formula-deep s x a b h = go (head s) h
   where
-    go : (r : Record) → headOf r ≡ Open x a b → replyOf (tooDeep r) ≡ Refused 8 0
+    go : (r : Record) → headOf r ≡ Open x a b → replyOf (tooDeep r) ≡ Refused deepNesting 0
     go (bad y) h = cc
     go (opened l) h = refl
 
@@ -106,12 +107,12 @@ unfolding formulaIn
 formula-open zero s x a b nz h = absurd (nz refl)
 formula-open (suc d) s x a b nz h = rw (sub-one (suc d)) (go (head s) h)
   where
-    go : (r : Record) → headOf r ≡ Open x a b → replyOf (body (formulaIn d) s r) ≡ shift a (replyOf (formulasIn (formulaIn d) b (drop a s)))
+    go : (r : Record) → headOf r ≡ Open x a b → replyOf (byRecord (formulaIn d) s r) ≡ shift a (replyOf (formulasIn (formulaIn d) b (drop a s)))
     go (bad e) h = cc
     go (opened l) h =
         let ea : size l ≡ a = cc in
         let eb : follow l ≡ b = cc in
-        rw (← ea, ← eb) (reply-under l (formulasIn (formulaIn d) (follow l) (drop (size l) s)))
+        rw (← ea, ← eb) (reply-headed l (formulasIn (formulaIn d) (follow l) (drop (size l) s)))
 
 -- a record that is read lies in the bytes
 pub open-within : (s : List ℕ) (x a b : ℕ) → headOf (head s) ≡ Open x a b → a ≤ length s

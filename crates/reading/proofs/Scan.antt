@@ -7,11 +7,10 @@ use native.Mathlib.Nat.{add-assoc, add-zero}
 use native.Mathlib.Omega.{arith}
 use lib.ListN.{length, drop, getD, length-drop, length-append}
 use lib.Seq.{drop-append-seam, drop-drop, getD-drop}
-use mathlib.Core.Bool.{Bool, true, false}
-use Rattle.reading.specs.Limits.{resultLevels}
+use mathlib.Core.Bool.{Bool, true, false, cond}
+use Rattle.reading.specs.Limits.{treeLevels}
 use Rattle.reading.specs.Bytes.{le2}
 use Rattle.reading.specs.Formula.{Formula, Formulas, count, Label, kindNo, size, fieldBytes, recordBytes, encode, encodes, InRange, Fits, AllFit, less, atmost, equal, atom, not, list, quant, window, none, more, atomL, notL, listL, quantL, windowL}
-use Rattle.reading.specs.Records.{pick}
 use Rattle.reading.specs.Reading.{treeOf, Exactly}
 use Rattle.reading.specs.Quantifiers.{Quantifier, met, seek, seeks, foundOf, isQuantifier, nothing, at}
 use Rattle.reading.specs.declared.Found.{Found}
@@ -107,7 +106,7 @@ met-after true cur p b v f = refl
 met-after false nothing p b v f = refl
 met-after false (at o c u g) p b v f = refl
 
-apart-kind : (last : Bool) (cur : Quantifier) (p : ℕ) (f : Formula) → foundOf (noticed last cur p f) ≡ pick (isQuantifier (kindNo (label f))) (after last (foundOf cur) p) (foundOf cur)
+apart-kind : (last : Bool) (cur : Quantifier) (p : ℕ) (f : Formula) → foundOf (noticed last cur p f) ≡ cond (isQuantifier (kindNo (label f))) (after last (foundOf cur) p) (foundOf cur)
 unfolding isQuantifier
 apart-kind last cur p (atom less ns) = refl
 apart-kind last cur p (atom atmost ns) = refl
@@ -127,25 +126,25 @@ header l u = (two (size l) (size-small l .1), two (kindNo l) (kind-small l))
 -- ---- the walk
 
 -- at a record of s: what is left, and the quantifier that is found so far; `goal` is what the whole walk will find
-pub record Walk (last : Bool) (goal : Found) (s : List ℕ) (p : ℕ) (found : Found) : Type 0 where
+pub record Scanned (last : Bool) (goal : Found) (s : List ℕ) (p : ℕ) (found : Found) : Type 0 where
   pub cur : Quantifier
   pub left : Formulas
   pub bytes : drop p s ≡ encodes left
-  pub fits : AllFit resultLevels left
+  pub fits : AllFit treeLevels left
   pub is : found ≡ foundOf cur
   pub finds : goal ≡ foundOf (seeks last cur p left)
   pub within : p ≤ length s
 
 -- a step to the next record
-pub record Step (last : Bool) (goal : Found) (s : List ℕ) (p : ℕ) (found : Found) : Type 0 where
+pub record ScanStep (last : Bool) (goal : Found) (s : List ℕ) (p : ℕ) (found : Found) : Type 0 where
   pub room : p + 4 ≤ length s
   pub long : 4 ≤ le2 s p
-  pub next : Walk last goal s (p + le2 s p) (pick (isQuantifier (le2 s (p + 2))) (after last found p) found)
+  pub next : Scanned last goal s (p + le2 s p) (cond (isQuantifier (le2 s (p + 2))) (after last found p) found)
 
 -- the walk begins with the whole formula
-pub walk-begins : (last : Bool) (s : List ℕ) → Exactly s (treeOf s) → Walk last (foundOf (seek last nothing 0 (treeOf s))) s 0 Nothing
+pub scan-begins : (last : Bool) (s : List ℕ) → Exactly s (treeOf s) → Scanned last (foundOf (seek last nothing 0 (treeOf s))) s 0 Nothing
 unfolding seek encode
-walk-begins last s x = record {
+scan-begins last s x = record {
   cur = nothing;
   left = more (treeOf s) none;
   bytes = x .bytes ∙ sym (append-nil (encode (treeOf s)));
@@ -155,14 +154,14 @@ walk-begins last s x = record {
   within = omega arith;
 }
 
-walk-apart : (last : Bool) (goal : Found) (s : List ℕ) (p : ℕ) (found : Found) (cur : Quantifier) (f : Formula) (gs : Formulas)
-    → drop p s ≡ encode f ++ encodes gs → Fits resultLevels f → AllFit resultLevels gs → found ≡ foundOf cur → goal ≡ foundOf (seeks last cur p (more f gs)) → p ≤ length s → Step last goal s p found
-walk-apart last goal s p found cur f gs e w x is finds h =
+scan-apart : (last : Bool) (goal : Found) (s : List ℕ) (p : ℕ) (found : Found) (cur : Quantifier) (f : Formula) (gs : Formulas)
+    → drop p s ≡ encode f ++ encodes gs → Fits treeLevels f → AllFit treeLevels gs → found ≡ foundOf cur → goal ≡ foundOf (seeks last cur p (more f gs)) → p ≤ length s → ScanStep last goal s p found
+scan-apart last goal s p found cur f gs e w x is finds h =
     let l = label f in
     let u = encodes (rest f gs) in
     let b : drop p s ≡ recordBytes l ++ u = e ∙ apart-bytes f gs in
     let k = header l u in
-    let n = record-long l (apart-range resultLevels f w) in
+    let n = record-long l (apart-range treeLevels f w) in
     let m : length s ≡ p + (size l + length u) = omega (arith, length-drop p s, ap length b, length-append (recordBytes l) u, n) in
     let at0 : le2 s p ≡ size l = ap₂ (λ (i j : ℕ). i + 256 * j) (ap (λ (i : ℕ). getD s i 0) (sym (add-zero p)) ∙ sym (getD-drop p s 0 0)) (sym (getD-drop p s 1 0)) ∙ ap (λ (t : List ℕ). le2 t 0) b ∙ k .0 in
     let at2 : le2 s (p + 2) ≡ kindNo l = ap₂ (λ (i j : ℕ). i + 256 * j) (sym (getD-drop p s 2 0)) (ap (λ (i : ℕ). getD s i 0) (add-assoc p 2 1) ∙ sym (getD-drop p s 3 0)) ∙ ap (λ (t : List ℕ). le2 t 2) b ∙ k .1 in
@@ -173,31 +172,31 @@ walk-apart last goal s p found cur f gs e w x is finds h =
         cur = noticed last cur p f;
         left = rest f gs;
         bytes = sym (drop-drop (size l) p s) ∙ ap (drop (size l)) b ∙ rw (← n) (drop-append-seam (recordBytes l) u);
-        fits = apart-fit resultLevels f gs w x;
+        fits = apart-fit treeLevels f gs w x;
         is = rw is (sym (apart-kind last cur p f));
-        finds = finds ∙ ap foundOf (apart-seeks last cur resultLevels p f gs w);
+        finds = finds ∙ ap foundOf (apart-seeks last cur treeLevels p f gs w);
         within = omega arith;
       });
     }
 
 -- each record is as long as it says, and the walk goes on behind it
-pub walk-step : {last : Bool} {goal : Found} {s : List ℕ} {p : ℕ} {found : Found} → Walk last goal s p found → p < length s → Step last goal s p found
+pub scan-step : {last : Bool} {goal : Found} {s : List ℕ} {p : ℕ} {found : Found} → Scanned last goal s p found → p < length s → ScanStep last goal s p found
 unfolding encode
-walk-step {last} {goal} {s} {p} {found} w h = go (w .left) (w .bytes) (w .fits) (w .finds)
+scan-step {last} {goal} {s} {p} {found} w h = go (w .left) (w .bytes) (w .fits) (w .finds)
   where
-    go : (fs : Formulas) → drop p s ≡ encodes fs → AllFit resultLevels fs → goal ≡ foundOf (seeks last (w .cur) p fs) → Step last goal s p found
+    go : (fs : Formulas) → drop p s ≡ encodes fs → AllFit treeLevels fs → goal ≡ foundOf (seeks last (w .cur) p fs) → ScanStep last goal s p found
     go none e x finds = let z : length (drop p s) ≡ 0 = ap length e in absurd (omega (arith, length-drop p s))
-    go (more f gs) e x finds = walk-apart last goal s p found (w .cur) f gs e (x .0) (x .1) (w .is) finds (w .within)
+    go (more f gs) e x finds = scan-apart last goal s p found (w .cur) f gs e (x .0) (x .1) (w .is) finds (w .within)
 
 -- at the end nothing is left
-pub walk-ends : {last : Bool} {goal : Found} {s : List ℕ} {p : ℕ} {found : Found} → Walk last goal s p found → length s ≤ p → found ≡ goal
+pub scan-ends : {last : Bool} {goal : Found} {s : List ℕ} {p : ℕ} {found : Found} → Scanned last goal s p found → length s ≤ p → found ≡ goal
 unfolding seek encode
-walk-ends {last} {goal} {s} {p} {found} w h = go (w .left) (w .bytes) (w .fits) (w .finds)
+scan-ends {last} {goal} {s} {p} {found} w h = go (w .left) (w .bytes) (w .fits) (w .finds)
   where
-    go : (fs : Formulas) → drop p s ≡ encodes fs → AllFit resultLevels fs → goal ≡ foundOf (seeks last (w .cur) p fs) → found ≡ goal
+    go : (fs : Formulas) → drop p s ≡ encodes fs → AllFit treeLevels fs → goal ≡ foundOf (seeks last (w .cur) p fs) → found ≡ goal
     go none e x finds = w .is ∙ sym finds
     go (more f gs) e x finds =
-        let n = record-long (label f) (apart-range resultLevels f (x .0)) in
+        let n = record-long (label f) (apart-range treeLevels f (x .0)) in
         absurd (omega (arith, length-drop p s, ap length (e ∙ apart-bytes f gs), length-append (recordBytes (label f)) (encodes (rest f gs)), n, size-small (label f) .0))
 
 -- the first quantifier that is met stays
@@ -216,8 +215,8 @@ mutual
   first-stay o b v g p (more f fs) = ap (λ (q : Quantifier). seeks false q (p + length (encode f)) fs) (first-stays o b v g p f) ∙ first-stay o b v g (p + length (encode f)) fs
 
 -- a search for the first quantifier may stop at it
-pub walk-found : {goal : Found} {s : List ℕ} {p o : ℕ} → Walk false goal s p (At o) → goal ≡ At o
-walk-found {goal} {s} {p} {o} w = go (w .cur) (w .is) (w .finds)
+pub scan-found : {goal : Found} {s : List ℕ} {p o : ℕ} → Scanned false goal s p (At o) → goal ≡ At o
+scan-found {goal} {s} {p} {o} w = go (w .cur) (w .is) (w .finds)
   where
     go : (cur : Quantifier) → At o ≡ foundOf cur → goal ≡ foundOf (seeks false cur p (w .left)) → goal ≡ At o
     go nothing e finds = let z : _≡_ {A = ℕ} 0 1 = cc in absurd (omega arith)

@@ -16,7 +16,7 @@ use Rattle.reading.specs.Bytes.{le4, int4}
 use Rattle.reading.specs.Records.{inM, allM}
 
 -- the number that bits below 2^31, and from 2^31 on, stand for
-pub toZ-low : (v : ℕ) → v < 2147483648 → toZ w32 v ≡ pos v
+toZ-low : (v : ℕ) → v < 2147483648 → toZ w32 v ≡ pos v
 toZ-low v h = simp (lt-ltb v 2147483648 h)
 
 pub toZ-high : (v : ℕ) → 2147483648 ≤ v → toZ w32 v ≡ negsuc (4294967296 - suc v)
@@ -41,9 +41,9 @@ inM-rest v top h = go (leb 3221225473 v) refl
     go false e = low (ltb v 2147483648) refl (leb-false 3221225473 v e)
 
 -- a test of `in_m` on what `u32_at` gave, as a test of the definition's number
-pub tested : (s : List ℕ) (i : ℕ) {v : ℕ} {r b : Bool} → v ≡ le4 s i → r ≡ inM (toZ w32 v) → r ≡ b → inM (int4 s i) ≡ b
+pub inM-read : (s : List ℕ) (i : ℕ) {v : ℕ} {r b : Bool} → v ≡ le4 s i → r ≡ inM (toZ w32 v) → r ≡ b → inM (int4 s i) ≡ b
 unfolding int4
-tested s i e f g = sym (ap (λ (n : ℕ). inM (toZ w32 n)) e) ∙ sym f ∙ g
+inM-read s i e f g = sym (ap (λ (n : ℕ). inM (toZ w32 n)) e) ∙ sym f ∙ g
 
 -- one number more
 pub allM-more : (s : List ℕ) (n i p : ℕ) (b : Bool) → i < n → inM (int4 s p) ≡ true → b ≡ allM (n - i) p s → b ≡ allM (n - (i + 1)) (p + 4) s

@@ -13,12 +13,12 @@ use mir.Syntax.{w32}
 use mir.Val.{toZ, ofZ}
 use mir.ValLaws.{ofZ-toZ}
 use borrow.Author.Tests.{leb-true}
-use mathlib.Core.Bool.{Bool, true, false}
+use mathlib.Core.Bool.{Bool, true, false, cond}
 use Rattle.reading.specs.Limits.{M}
 use Rattle.reading.specs.Bytes.{le2, le4, int4, ints, bytes2, bytes4, intBytes, Bytes}
 use Rattle.reading.specs.Formula.{Formula, Formulas, count, Label, size, follow, fieldBytes, recordBytes, encode, encodes, AllM, InRange, Fits, AllFit, none, more, atomL, notL, listL, quantL, windowL}
-use Rattle.reading.specs.Records.{Record, pick, inM, allM, head, bad, opened}
-use Rattle.reading.specs.Reading.{Read, build, joined, then, formulasIn, under, tooDeep, body, formulaIn, good, fault}
+use Rattle.reading.specs.Records.{Record, inM, allM, head, bad, opened}
+use Rattle.reading.specs.Reading.{Read, build, joined, then, formulasIn, headed, tooDeep, byRecord, formulaIn, good, fault}
 use Rattle.reading.proofs.Ints.{ints-count}
 use Rattle.reading.proofs.Cases.{head-in}
 
@@ -71,7 +71,7 @@ unfolding allM ints inM
 allM-true zero i s h = tt
 allM-true (suc n) i s h = go (inM (int4 s i)) refl h (allM-true n (i + 4) s)
   where
-    go : (b : Bool) → inM (int4 s i) ≡ b → pick b (allM n (i + 4) s) false ≡ true → (allM n (i + 4) s ≡ true → AllM (ints n (i + 4) s)) → (natAbs (int4 s i) ≤ M) × AllM (ints n (i + 4) s)
+    go : (b : Bool) → inM (int4 s i) ≡ b → cond b (allM n (i + 4) s) false ≡ true → (allM n (i + 4) s ≡ true → AllM (ints n (i + 4) s)) → (natAbs (int4 s i) ≤ M) × AllM (ints n (i + 4) s)
     go true e h rest = (leb-true (natAbs (int4 s i)) M e, rest h)
     go false e h rest = let z : _≡_ {A = ℕ} 0 1 = cc in absurd (omega arith)
 
@@ -144,13 +144,13 @@ module _ (d : ℕ) (rd : List ℕ → Read Formula) (right : (s : List ℕ) → 
       go (good f k) h rest = joined-right s n f k (formulasIn rd n (drop k s)) h (rest k)
       go (fault e p) h rest = tt
 
-under-right : (d : ℕ) (s : List ℕ) (l : Label) (o : Read Formulas) → Said s (opened l) → RightAll d (follow l) (drop (size l) s) o → Right (suc d) s (under l o)
-under-right d s l (good fs k) h w = (
+headed-right : (d : ℕ) (s : List ℕ) (l : Label) (o : Read Formulas) → Said s (opened l) → RightAll d (follow l) (drop (size l) s) o → Right (suc d) s (headed l o)
+headed-right d s l (good fs k) h w = (
   take-add (size l) k s ∙ rw (h .0, w .0) (sym (build-bytes l fs (w .3))),
   build-fits d l fs (h .1) (w .1) (w .3),
   omega (arith, h .2, w .2, length-drop (size l) s),
 )
-under-right d s l (fault e p) h w = tt
+headed-right d s l (fault e p) h w = tt
 
 -- a formula that is read takes its own bytes, and fits
 pub formulaIn-right : (d : ℕ) (s : List ℕ) → Bytes s → Right d s (formulaIn d s)
@@ -162,6 +162,6 @@ formulaIn-right zero s ok = go (head s)
     go (opened l) = tt
 formulaIn-right (suc d) s ok = go (formulaIn d) (formulaIn-right d) (head s) (head-said s ok)
   where
-    go : (rd : List ℕ → Read Formula) → ((t : List ℕ) → Bytes t → Right d t (rd t)) → (r : Record) → Said s r → Right (suc d) s (body rd s r)
+    go : (rd : List ℕ → Read Formula) → ((t : List ℕ) → Bytes t → Right d t (rd t)) → (r : Record) → Said s r → Right (suc d) s (byRecord rd s r)
     go rd right (bad e) h = tt
-    go rd right (opened l) h = under-right d s l (formulasIn rd (follow l) (drop (size l) s)) h (formulasIn-right d rd right (follow l) (drop (size l) s) (bytes-drop s (size l) ok))
+    go rd right (opened l) h = headed-right d s l (formulasIn rd (follow l) (drop (size l) s)) h (formulasIn-right d rd right (follow l) (drop (size l) s) (bytes-drop s (size l) ok))

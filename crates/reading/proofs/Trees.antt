@@ -1,12 +1,12 @@
 -- Which tree stands in given bytes: at most one, and `treeOf` finds it. Levels may be added to a tree that fits. Assumes nothing.
-use mathlib.Core.Path.{_≡_, sym, _∙_, ap}
+use mathlib.Core.Path.{_≡_, sym, _∙_, ap, ap₂}
 use mathlib.Core.List.{List, [], _++_, append-nil}
 use Prim.Native.Nat.{ℕ, _+_, _-_, _≤_}
 use native.Mathlib.Omega.{arith}
 use lib.ListN.{length}
-use Rattle.reading.specs.Limits.{resultLevels}
+use Rattle.reading.specs.Limits.{treeLevels}
 use Rattle.reading.specs.Bytes.{Bytes}
-use Rattle.reading.specs.Formula.{Formula, Formulas, fieldBytes, recordBytes, encode, Fits, AllFit, atom, not, list, quant, window, none, more}
+use Rattle.reading.specs.Formula.{Formula, Formulas, encode, Fits, AllFit, atom, not, list, quant, window, none, more}
 use Rattle.reading.specs.Reading.{formulaIn, formulaOf, treeOf, Begins, Exactly, good}
 use Rattle.reading.specs.Answers.{reading}
 use Rattle.reading.specs.declared.Reply.the-variants.{Done}
@@ -26,15 +26,6 @@ mutual
   all-fit-more none d e h w = tt
   all-fit-more (more f fs) d e h w = (fits-more f d e h (w .0), all-fit-more fs d e h (w .1))
 
--- a formula takes at least the four bytes that a record begins with
-pub encode-long : (f : Formula) (d : ℕ) → Fits d f → 4 ≤ length (encode f)
-unfolding encode recordBytes fieldBytes
-encode-long (atom c ns) d w = omega arith
-encode-long (not f) d w = omega arith
-encode-long (list b fs) d w = omega arith
-encode-long (quant b v f) d w = omega arith
-encode-long (window v lo hi) d w = omega arith
-
 -- two formulas that fit and have the same bytes are the same
 pub encode-one : (f g : Formula) (d e : ℕ) → Fits d f → Fits e g → encode f ≡ encode g → f ≡ g
 encode-one f g d e w x h =
@@ -44,8 +35,8 @@ encode-one f g d e w x h =
     cc
 
 -- reading bytes that begin with a formula finds it
-pub begins-read : {s : List ℕ} {f : Formula} → Begins s f → formulaIn resultLevels s ≡ good f (length (encode f))
-begins-read {s} {f} b = ap (formulaIn resultLevels) (b .bytes) ∙ reads f resultLevels (b .rest) (b .fits)
+pub begins-read : {s : List ℕ} {f : Formula} → Begins s f → formulaIn treeLevels s ≡ good f (length (encode f))
+begins-read {s} {f} b = ap (formulaIn treeLevels) (b .bytes) ∙ reads f treeLevels (b .rest) (b .fits)
 
 -- the tree of bytes that begin with a formula is that formula
 pub tree-is : {s : List ℕ} {f : Formula} → Begins s f → treeOf s ≡ f
@@ -63,9 +54,16 @@ begins-tree b = rw (tree-is b) b
 pub exactly-tree : {s : List ℕ} {f : Formula} → Exactly s f → Exactly s (treeOf s)
 exactly-tree x = rw (tree-is (begins x)) x
 
--- a sheet that is accepted within the limits of results is just the bytes of its tree
-pub accepted-exactly : (limit d : ℕ) (s : List ℕ) {k : ℕ} → d ≤ resultLevels → Bytes s → reading limit d s ≡ Done k → Exactly s (treeOf s)
+-- a sheet that is accepted is just the bytes of its tree, and that tree is what was read
+pub accepted-exactly : (limit d : ℕ) (s : List ℕ) {k : ℕ} → d ≤ treeLevels → Bytes s → reading limit d s ≡ Done k → Exactly s (treeOf s)
 accepted-exactly limit d s {k} h ok e =
     let a = accepted limit d s k ok e in
-    let x : Exactly s (a .0) = record { bytes = a .2; fits = fits-more (a .0) d resultLevels h (a .1) } in
+    let x : Exactly s (a .0) = record { bytes = a .2; fits = fits-more (a .0) d treeLevels h (a .1) } in
     exactly-tree x
+
+pub accepted-read : (limit d : ℕ) (s : List ℕ) {k : ℕ} → d ≤ treeLevels → Bytes s → reading limit d s ≡ Done k → formulaIn d s ≡ good (treeOf s) (length s)
+accepted-read limit d s {k} h ok e =
+    let a = accepted limit d s k ok e in
+    let x : Exactly s (a .0) = record { bytes = a .2; fits = fits-more (a .0) d treeLevels h (a .1) } in
+    let n : s ≡ encode (a .0) ++ [] = a .2 ∙ sym (append-nil (encode (a .0))) in
+    ap (formulaIn d) n ∙ reads (a .0) d [] (a .1) ∙ ap₂ good (sym (tree-is (begins x))) (sym (ap length (a .2)))

@@ -63,12 +63,27 @@ kindNo (quantL b v) = quantNo b
 kindNo (windowL v lo hi) = 9
 
 -- its length in bytes
+abbrev pub atomSize : ℕ
+atomSize = 40
+
+abbrev pub notSize : ℕ
+notSize = 4
+
+abbrev pub listSize : ℕ
+listSize = 6
+
+abbrev pub quantSize : ℕ
+quantSize = 6
+
+abbrev pub windowSize : ℕ
+windowSize = 14
+
 abbrev pub size : Label → ℕ
-size (atomL c ns) = 40
-size notL = 4
-size (listL b n) = 6
-size (quantL b v) = 6
-size (windowL v lo hi) = 14
+size (atomL c ns) = atomSize
+size notL = notSize
+size (listL b n) = listSize
+size (quantL b v) = quantSize
+size (windowL v lo hi) = windowSize
 
 -- how many formulas follow it
 abbrev pub follow : Label → ℕ
@@ -141,3 +156,13 @@ abbrev mutual
   pub AllFree : Formulas → Type 0
   AllFree none = Unit {0}
   AllFree (more f fs) = Free f × AllFree fs
+
+-- ---- sorts of formulas
+
+-- ALLOF or ANYOF
+abbrev pub IsList : Formula → Type 0
+IsList (atom c ns) = ⊥
+IsList (not f) = ⊥
+IsList (list b fs) = Unit {0}
+IsList (quant b v f) = ⊥
+IsList (window v lo hi) = ⊥

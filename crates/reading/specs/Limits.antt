@@ -21,6 +21,10 @@ resultBytes = 65536
 abbrev pub resultLevels : ℕ
 resultLevels = 17
 
+-- bytes that are known to be a formula's are read to this depth, whatever limit they were accepted by: no limit is deeper
+abbrev pub treeLevels : ℕ
+treeLevels = resultLevels
+
 -- what each case of the code's limits stands for
 abbrev pub bytesOf : Limit → ℕ
 bytesOf Sheet = sheetBytes

@@ -2,13 +2,12 @@
 use Prim.Native.Nat.{ℕ, _+_, _-_, _≤_}
 use mathlib.Core.Path.{_≡_}
 use mathlib.Core.Logic.{_⊎_}
-use mathlib.Core.Bool.{Bool, true, false}
+use mathlib.Core.Bool.{Bool, true, false, cond}
 use mathlib.Core.List.{List}
 use lib.ListN.{length, take, drop}
 use lib.Dec.{ltb, leb}
 use Rattle.reading.specs.Limits.{resultBytes, resultLevels}
-use Rattle.reading.specs.Formula.{Formula, Formulas, atom, not, list, quant, window, none, more, encode, Fits}
-use Rattle.reading.specs.Records.{pick}
+use Rattle.reading.specs.Formula.{Formula, Formulas, atom, not, list, quant, window, none, more, notSize, listSize, quantSize, encode, Fits}
 use Rattle.reading.specs.Reading.{Read, good, fault, formulaIn}
 use Rattle.reading.specs.Answers.{reading}
 use Rattle.reading.specs.declared.Found.{Found}
@@ -32,9 +31,9 @@ met false (at p b v f) new = at p b v f
 unfoldable mutual
   pub seek : Bool → Quantifier → ℕ → Formula → Quantifier
   seek last cur p (atom c ns) = cur
-  seek last cur p (not f) = seek last cur (p + 4) f
-  seek last cur p (list b fs) = seeks last cur (p + 6) fs
-  seek last cur p (quant b v f) = seek last (met last cur (at p b v f)) (p + 6) f
+  seek last cur p (not f) = seek last cur (p + notSize) f
+  seek last cur p (list b fs) = seeks last cur (p + listSize) fs
+  seek last cur p (quant b v f) = seek last (met last cur (at p b v f)) (p + quantSize) f
   seek last cur p (window v lo hi) = cur
 
   pub seeks : Bool → Quantifier → ℕ → Formulas → Quantifier
@@ -51,9 +50,9 @@ firstIn f = seek false nothing 0 f
 abbrev mutual
   pub QuantifierAt : ℕ → Formula → Type 0
   QuantifierAt p (atom c ns) = ⊥
-  QuantifierAt p (not f) = (4 ≤ p) × QuantifierAt (p - 4) f
-  QuantifierAt p (list b fs) = (6 ≤ p) × QuantifierAtAny (p - 6) fs
-  QuantifierAt p (quant b v f) = (p ≡ 0) ⊎ ((6 ≤ p) × QuantifierAt (p - 6) f)
+  QuantifierAt p (not f) = (notSize ≤ p) × QuantifierAt (p - notSize) f
+  QuantifierAt p (list b fs) = (listSize ≤ p) × QuantifierAtAny (p - listSize) fs
+  QuantifierAt p (quant b v f) = (p ≡ 0) ⊎ ((quantSize ≤ p) × QuantifierAt (p - quantSize) f)
   QuantifierAt p (window v lo hi) = ⊥
 
   pub QuantifierAtAny : ℕ → Formulas → Type 0
@@ -71,13 +70,13 @@ foundOf (at p b v f) = At p
 
 -- whether a record's kind is a quantifier's
 unfoldable pub isQuantifier : ℕ → Bool
-isQuantifier k = pick (ltb k 7) false (leb k 8)
+isQuantifier k = cond (ltb k 7) false (leb k 8)
 
 -- ---- the look: where the body begins and how long it is; nothing where there is no quantifier or the sheet is refused
 
 abbrev pub bodyPart : Quantifier → Part
 bodyPart nothing = record { at = 0; length = 0 }
-bodyPart (at p b v f) = record { at = p + 6; length = length (encode f) }
+bodyPart (at p b v f) = record { at = p + quantSize; length = length (encode f) }
 
 abbrev pub partIn : Reply → Read Formula → Part
 partIn (Refused n p) r = record { at = 0; length = 0 }

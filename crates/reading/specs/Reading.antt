@@ -5,7 +5,8 @@ use mathlib.Core.Bool.{true, false}
 use mathlib.Core.Path.{_≡_}
 use mathlib.Core.List.{List, _++_}
 use lib.ListN.{drop}
-use Rattle.reading.specs.Limits.{resultLevels}
+use Rattle.reading.specs.Limits.{treeLevels}
+use Rattle.reading.specs.AnswerNumbers.{deepNesting}
 use Rattle.reading.specs.Formula.{Formula, Formulas, atom, not, list, quant, window, none, more, Label, atomL, notL, listL, quantL, windowL, size, follow, encode, Fits}
 use Rattle.reading.specs.Records.{Record, bad, opened, head}
 
@@ -42,22 +43,22 @@ formulasIn rd zero s = good none 0
 formulasIn rd (suc n) s = then (rd s) (λ k. formulasIn rd n (drop k s))
 
 -- a record and then formulas
-abbrev pub under : Label → Read Formulas → Read Formula
-under l (good fs j) = good (build l fs) (size l + j)
-under l (fault n p) = fault n (size l + p)
+abbrev pub headed : Label → Read Formulas → Read Formula
+headed l (good fs j) = good (build l fs) (size l + j)
+headed l (fault n p) = fault n (size l + p)
 
 abbrev pub tooDeep : Record → Read Formula
 tooDeep (bad n) = fault n 0
-tooDeep (opened l) = fault 8 0
+tooDeep (opened l) = fault deepNesting 0
 
-abbrev pub body : (List ℕ → Read Formula) → List ℕ → Record → Read Formula
-body rd s (bad n) = fault n 0
-body rd s (opened l) = under l (formulasIn rd (follow l) (drop (size l) s))
+abbrev pub byRecord : (List ℕ → Read Formula) → List ℕ → Record → Read Formula
+byRecord rd s (bad n) = fault n 0
+byRecord rd s (opened l) = headed l (formulasIn rd (follow l) (drop (size l) s))
 
 -- the formula that s begins with, of at most d levels
 unfoldable pub formulaIn : ℕ → List ℕ → Read Formula
 formulaIn zero s = tooDeep (head s)
-formulaIn (suc d) s = body (formulaIn d) s (head s)
+formulaIn (suc d) s = byRecord (formulaIn d) s (head s)
 
 -- ---- bytes that are known to be a formula's
 
@@ -67,15 +68,15 @@ formulaOf (fault n p) = list true none
 
 -- the formula that s begins with, where it begins with one
 unfoldable pub treeOf : List ℕ → Formula
-treeOf s = formulaOf (formulaIn resultLevels s)
+treeOf s = formulaOf (formulaIn treeLevels s)
 
 -- s begins with the bytes of f
 pub record Begins (s : List ℕ) (f : Formula) : Type 0 where
   pub rest : List ℕ
   pub bytes : s ≡ encode f ++ rest
-  pub fits : Fits resultLevels f
+  pub fits : Fits treeLevels f
 
 -- s is the bytes of f and nothing else
 pub record Exactly (s : List ℕ) (f : Formula) : Type 0 where
   pub bytes : s ≡ encode f
-  pub fits : Fits resultLevels f
+  pub fits : Fits treeLevels f

@@ -3,7 +3,10 @@ ghost use mathlib.Core.Path.{_≡_};
 ghost use Rattle.reading.specs.Limits.{bytesOf, levelsOf};
 ghost use Rattle.reading.specs.Reading.{formulaIn};
 ghost use Rattle.reading.specs.Answers.{replyOf, reading};
+use crate::BYTES_AFTER;
+use crate::DEEP_NESTING;
 use crate::Head;
+use crate::LONG_SHEET;
 use crate::Limit;
 use crate::RESULT_BYTES;
 use crate::RESULT_LEVELS;
@@ -20,7 +23,7 @@ pub fn formula_at(s: &[u8], levels: usize) -> Reply
         Head::Bad(n) => Reply::Refused(n, 0),
         Head::Open(_, size, follow) => {
             if levels == 0 {
-                return Reply::Refused(8, 0);
+                return Reply::Refused(DEEP_NESTING, 0);
             }
             let mut at = size;
             let mut i = 0;
@@ -64,13 +67,13 @@ fn read_within(s: &[u8], bytes: usize, levels: usize) -> Reply
     ensures { λ r. ⌜ r ≡ reading bytes levels (now (s .entry)) ⌝ }
 {
     if bytes < s.len() {
-        return Reply::Refused(2, 0);
+        return Reply::Refused(LONG_SHEET, 0);
     }
     match formula_at(s, levels) {
         Reply::Refused(n, p) => Reply::Refused(n, p),
         Reply::Done(k) => {
             if k < s.len() {
-                return Reply::Refused(9, k);
+                return Reply::Refused(BYTES_AFTER, k);
             }
             Reply::Done(k)
         }

@@ -4,14 +4,19 @@ mod formulas;
 mod numbers;
 mod quantifiers;
 mod records;
+mod views;
 
 pub use formulas::read_whole;
-pub use numbers::int_at;
-pub use numbers::nine;
 pub use numbers::u16_at;
 pub use quantifiers::first_quantifier;
 pub use quantifiers::last_quantifier;
 pub use quantifiers::look_part;
+pub use views::binder_at;
+pub use views::comparison_number;
+pub use views::members_at;
+pub use views::row_at;
+pub use views::shape_at;
+pub use views::window_at;
 ghost use mathlib.Core.Path.{_≡_};
 ghost use Prim.Native.Nat.{_+_};
 ghost use Rattle.reading.specs.Limits.{bytesOf, levelsOf};
@@ -28,6 +33,9 @@ pub const RESULT_BYTES: usize = 65536;
 
 pub const RESULT_LEVELS: usize = 17;
 
+// Bytes that are known to be a formula's are read to this depth, whatever limit they were accepted by.
+pub const TREE_LEVELS: usize = RESULT_LEVELS;
+
 // Whose limits a sheet is read by: a sheet's, or a result's, which the test at fractions and the look take too.
 pub enum Limit {
     Sheet,
@@ -39,6 +47,77 @@ pub const MOST: u32 = 1073741823;
 
 // The greatest variable's number.
 pub const LAST_VARIABLE: u16 = 7;
+
+// The number of each answer.
+pub const DONE: usize = 0;
+
+pub const SMALL_BUFFER: usize = 1;
+
+pub const LONG_SHEET: usize = 2;
+
+pub const CUT_SHORT: usize = 3;
+
+pub const WRONG_KIND: usize = 4;
+
+pub const WRONG_LENGTH: usize = 5;
+
+pub const WRONG_VARIABLE: usize = 6;
+
+pub const WRONG_NUMBER: usize = 7;
+
+pub const DEEP_NESTING: usize = 8;
+
+pub const BYTES_AFTER: usize = 9;
+
+pub const MANY_TERMS: usize = 10;
+
+pub const BIG_NUMBER: usize = 11;
+
+pub const LONG_RESULT: usize = 12;
+
+pub const QUANTIFIED: usize = 13;
+
+pub const WRONG_VALUE: usize = 14;
+
+// The length of a record of each kind.
+pub const ATOM_BYTES: usize = 40;
+
+pub const NOT_BYTES: usize = 4;
+
+pub const LIST_BYTES: usize = 6;
+
+pub const QUANTIFIER_BYTES: usize = 6;
+
+pub const WINDOW_BYTES: usize = 14;
+
+// sum < 0, sum <= 0, sum = 0.
+pub enum Comparison {
+    Less,
+    AtMost,
+    Equal,
+}
+
+// The kind of a record: a list is ALLOF or not, a quantifier EVERY or not.
+pub enum Shape {
+    Atom(Comparison),
+    Not,
+    List(bool),
+    Quantifier(bool),
+    Window,
+}
+
+// A WINDOW: lo <= variable <= hi.
+pub struct Window {
+    pub variable: usize,
+    pub lo: i64,
+    pub hi: i64,
+}
+
+// A quantifier: EVERY or SOME, and its variable.
+pub struct Binder {
+    pub every: bool,
+    pub variable: usize,
+}
 
 // One record: the number of its refusal; or its kind, its length and how many formulas follow it.
 pub enum Head {
@@ -76,7 +155,7 @@ pub fn read(s: &[u8], limit: Limit) -> Answer
 {
     match read_whole(s, limit) {
         Reply::Done(_) => Answer {
-            number: 0,
+            number: DONE,
             place: 0,
         },
         Reply::Refused(number, place) => Answer { number, place },

@@ -1,16 +1,17 @@
 // The first and the last quantifier of an accepted formula in reading order, by one walk over its records, and the look.
+ghost use mathlib.Core.Bool.{cond};
 ghost use mathlib.Core.Path.{_≡_};
 ghost use lib.ListN.{length};
 ghost use Rattle.reading.specs.Formula.{encode};
-ghost use Rattle.reading.specs.Records.{pick};
 ghost use Rattle.reading.specs.Reading.{treeOf, Begins, Exactly};
 ghost use Rattle.reading.specs.declared.Found.the-variants.{At};
 ghost use Rattle.reading.specs.Quantifiers.{foundOf, firstIn, lastIn, isQuantifier, lookPart};
 use crate::Found;
 use crate::Limit;
 use crate::Part;
-use crate::RESULT_LEVELS;
+use crate::QUANTIFIER_BYTES;
 use crate::Reply;
+use crate::TREE_LEVELS;
 use crate::formulas::formula_at;
 use crate::formulas::read_whole;
 use crate::numbers::u16_at;
@@ -26,7 +27,7 @@ fn is_quantifier(kind: u16) -> bool
 
 // What is found after one record more: a later quantifier takes the place of an earlier one.
 fn later(found: Found, kind: u16, at: usize) -> Found
-    ensures { λ r. ⌜ r ≡ pick (isQuantifier kind) (At at) found ⌝ }
+    ensures { λ r. ⌜ r ≡ cond (isQuantifier kind) (At at) found ⌝ }
 {
     if is_quantifier(kind) {
         return Found::At(at);
@@ -68,7 +69,7 @@ pub fn formula_length(s: &[u8]) -> usize
     requires { ⌜ Begins (now s) (treeOf (now s)) ⌝ }
     ensures { λ r. ⌜ r ≡ length (encode (treeOf (now (s .entry)))) ⌝ }
 {
-    match formula_at(s, RESULT_LEVELS) {
+    match formula_at(s, TREE_LEVELS) {
         Reply::Done(used) => used,
         Reply::Refused(_, _) => 0,
     }
@@ -83,8 +84,8 @@ pub fn look_part(s: &[u8]) -> Part
         Reply::Done(_) => match last_quantifier(s) {
             Found::Nothing => Part { at: 0, length: 0 },
             Found::At(o) => Part {
-                at: o + 6,
-                length: formula_length(&s[o + 6..]),
+                at: o + QUANTIFIER_BYTES,
+                length: formula_length(&s[o + QUANTIFIER_BYTES..]),
             },
         },
     }

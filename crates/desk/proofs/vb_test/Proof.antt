@@ -1,10 +1,8 @@
 -- The nine numbers go below as an array; the reply is that of the call there.
-use mathlib.Core.Path.{_≡_, ap, _∙_}
-use mathlib.Core.List.{List, [], _∷_}
-use lib.IntN.{ℤ}
+use mathlib.Core.Path.{_∙_}
+use mathlib.Core.List.{[], _∷_}
 use Rattle.exact.proofs.Sizes.{rd}
-use Rattle.elimination.specs.Testing.{tested}
-use Rattle.elimination.specs.declared.Tested.{Tested}
+use Rattle.rules.specs.Test.{tested}
 use borrow.Author.Needs.{needs}
 use Rattle.desk.proofs.vb_test.Statement.{statement}
 use Rattle.desk.proofs.vb_test.Tie as tie

@@ -1,12 +1,13 @@
--- `atom`: each outcome of the atom below is what `settle` says, and only a new atom that fits is written.
+-- `atom`: by what the arithmetic answers, and only a new atom that fits is written.
 use mathlib.Core.Path.{_≡_, refl}
 use mathlib.Core.Bool.{true, false}
 use native.Mathlib.Omega.{arith}
 use lib.ListN.{length}
 use borrow.Author.Needs.{needs}
 use Rattle.exact.specs.Atoms.{spotOf, comparisonOf}
+use Rattle.exact.specs.declared.Outcome.the-variants.{True, False, New}
 use Rattle.elimination.proofs.copying.atom.Statement.{statement}
-use Rattle.elimination.proofs.Settling.{settle-true, settle-false, settle-big, settle-kept, wrote-truth, wrote-big, wrote-atom, new-each, new-nine}
+use Rattle.elimination.proofs.copying.Settling.{came-atom, wrote-truth, wrote-big, wrote-atom, new-each, new-nine}
 use Rattle.elimination.proofs.copying.atom.Tie as tie
 
 atom-at-requires : tie.Need-atom-at-requires
@@ -44,26 +45,26 @@ returns c =
     let r = w .atom-at .result in
     let nn : length (a .args .ns) ≡ 9 = search needs in
     let n : length (r .nums) ≡ 9 = new-nine (spotOf (a .args .q)) (comparisonOf (a .args .kind)) (a .args .ns) r (w .atom-at .ensures) nn in
-    wrote-atom (a .args .kind) (r .nums) (a .args .used) (a .args .to) (a .args .out .now) (p .put-atom .last .0) (settle-kept (spotOf (a .args .q)) (comparisonOf (a .args .kind)) (a .args .ns) r (w .atom-at .ensures) (e .enum-told3 .given .1) (i .if1 .taken)) (a .pre .0 .0) (a .pre .0 .1) n (a .pre .1 .1 .1) (p .put-atom .ensures)
+    wrote-atom (a .args .kind) (r .nums) (a .args .used) (a .args .to) (a .args .out .now) (p .put-atom .last .0) (came-atom (spotOf (a .args .q)) (comparisonOf (a .args .kind)) (a .args .ns) r (w .atom-at .ensures) New true (e .enum-told3 .given .1) (i .if1 .taken)) (a .pre .0 .0) (a .pre .0 .1) n (a .pre .1 .1 .1) (p .put-atom .ensures)
 
 returns-2 : tie.Need-returns-2
 returns-2 c =
     let w = c .before .before in
     let a = w .before .before in
-    wrote-truth true (a .args .used) (a .args .to) (a .args .out .now) (settle-true (spotOf (a .args .q)) (comparisonOf (a .args .kind)) (a .args .ns) (w .atom-at .result) (w .atom-at .ensures) (c .enum-told .given .1))
+    wrote-truth true (a .args .used) (a .args .to) (a .args .out .now) (came-atom (spotOf (a .args .q)) (comparisonOf (a .args .kind)) (a .args .ns) (w .atom-at .result) (w .atom-at .ensures) True _ (c .enum-told .given .1) refl)
 
 returns-3 : tie.Need-returns-3
 returns-3 c =
     let w = c .before .before in
     let a = w .before .before in
-    wrote-truth false (a .args .used) (a .args .to) (a .args .out .now) (settle-false (spotOf (a .args .q)) (comparisonOf (a .args .kind)) (a .args .ns) (w .atom-at .result) (w .atom-at .ensures) (c .enum-told2 .given .1))
+    wrote-truth false (a .args .used) (a .args .to) (a .args .out .now) (came-atom (spotOf (a .args .q)) (comparisonOf (a .args .kind)) (a .args .ns) (w .atom-at .result) (w .atom-at .ensures) False _ (c .enum-told2 .given .1) refl)
 
 returns-4 : tie.Need-returns-4
 returns-4 c =
     let e = c .before in
     let w = e .before .before in
     let a = w .before .before in
-    wrote-big (a .args .used) (a .args .to) (a .args .out .now) (a .args .out .now) (settle-big (spotOf (a .args .q)) (comparisonOf (a .args .kind)) (a .args .ns) (w .atom-at .result) (w .atom-at .ensures) (e .enum-told3 .given .1) (c .if1 .left)) refl
+    wrote-big (a .args .used) (a .args .to) (a .args .out .now) (a .args .out .now) (came-atom (spotOf (a .args .q)) (comparisonOf (a .args .kind)) (a .args .ns) (w .atom-at .result) (w .atom-at .ensures) New false (e .enum-told3 .given .1) (c .if1 .left)) refl
 
 pub atom-spec : {M : Type 1} → statement M
 atom-spec =

@@ -1,17 +1,18 @@
 -- `denied`: the three comparisons under NOT; EQUAL becomes a pair.
-use mathlib.Core.Path.{_≡_, sym, _∙_, ap, subst}
+use mathlib.Core.Path.{_≡_, refl, sym, _∙_, ap, subst}
 use mathlib.Core.List.{List}
-use mathlib.Core.Bool.{false}
+use mathlib.Core.Bool.{true, false}
 use Prim.Native.Nat.{ℕ}
 use native.Mathlib.Omega.{arith}
 use lib.IntN.{ℤ}
 use borrow.Author.Needs.{needs}
-use Rattle.reading.specs.Formula.{less, atmost}
+use Rattle.reading.specs.Formula.{less, atmost, atom, list}
 use Rattle.reading.specs.Limits.{M}
 use Rattle.exact.specs.Numbers.{Each}
-use Rattle.exact.specs.Atoms.{spotOf, comparisonOf}
+use Rattle.exact.specs.Atoms.{comparisonOf, spotOf}
 use Rattle.exact.proofs.Rows.{each-minus, each-more}
-use Rattle.elimination.specs.Copying.{Come, Wrote, settle, pair, denied}
+use Rattle.rules.specs.Pushing.{two, pushAtom}
+use Rattle.elimination.proofs.copying.Settling.{retold}
 use Rattle.elimination.proofs.copying.denied.Statement.{statement}
 use Rattle.elimination.proofs.copying.denied.Tie as tie
 
@@ -32,8 +33,7 @@ returns c =
     let n = k .before .before in
     let i = n .before in
     let a = i .before .before in
-    subst (λ (y : Come). Wrote y 40 (a .args .to) (a .args .out .now) (k .atom .last .1 .1 .1 .0) (k .atom .result))
-    (ap (λ (l : List ℤ). settle (spotOf (a .args .q)) atmost l) (n .negated .ensures) ∙ ap (λ (j : ℕ). denied (spotOf (a .args .q)) (comparisonOf j) (a .args .ns)) (sym (i .if1 .taken))) (k .atom .ensures)
+    retold (spotOf (a .args .q)) (ap (atom atmost) (n .negated .ensures) ∙ ap (λ (j : ℕ). pushAtom true (comparisonOf j) (a .args .ns)) (sym (i .if1 .taken))) refl (k .atom .ensures)
 
 negated-requires-2 : tie.Need-negated-requires-2
 negated-requires-2 c κs = each-more (c .before .before .before .pre .1 .0) (omega arith)
@@ -52,8 +52,7 @@ returns-2 c =
     let n = k .before .before in
     let i = n .before in
     let a = i .before .before .before in
-    subst (λ (y : Come). Wrote y 40 (a .args .to) (a .args .out .now) (k .atom2 .last .1 .1 .1 .0) (k .atom2 .result))
-    (ap (λ (l : List ℤ). settle (spotOf (a .args .q)) less l) (n .negated2 .ensures) ∙ ap (λ (j : ℕ). denied (spotOf (a .args .q)) (comparisonOf j) (a .args .ns)) (sym (i .if2 .taken))) (k .atom2 .ensures)
+    retold (spotOf (a .args .q)) (ap (atom less) (n .negated2 .ensures) ∙ ap (λ (j : ℕ). pushAtom true (comparisonOf j) (a .args .ns)) (sym (i .if2 .taken))) refl (k .atom2 .ensures)
 
 negated-requires-3 : tie.Need-negated-requires-3
 negated-requires-3 c κs = each-more (c .before .before .before .pre .1 .0) (omega arith)
@@ -73,8 +72,7 @@ returns-3 c =
     let i = n .before in
     let a = i .before .before .before in
     let three : a .args .kind ≡ 3 = omega (arith, a .pre .0, i .if2 .left, i .before .if1 .left) in
-    subst (λ (y : Come). Wrote y 40 (a .args .to) (a .args .out .now) (k .pair .last .1 .1 .1 .1 .1 .0) (k .pair .result))
-    (ap (λ (l : List ℤ). pair (spotOf (a .args .q)) false less (a .args .ns) l) (n .negated3 .ensures) ∙ ap (λ (j : ℕ). denied (spotOf (a .args .q)) (comparisonOf j) (a .args .ns)) (sym three)) (k .pair .ensures)
+    retold (spotOf (a .args .q)) (ap (λ (l : List ℤ). list false (two (atom less (a .args .ns)) (atom less l))) (n .negated3 .ensures) ∙ ap (λ (j : ℕ). pushAtom true (comparisonOf j) (a .args .ns)) (sym three)) refl (k .pair .ensures)
 
 pub denied-spec : {M : Type 1} → statement M
 denied-spec =

@@ -2,19 +2,18 @@
 -- The measure is the number of quantifiers that are left.
 use mathlib.Core.Path.{_≡_, refl, sym, _∙_, ap, ap₂, subst}
 use mathlib.Core.Bool.{true}
-use Prim.Native.Nat.{ℕ, _≤_}
+use Prim.Native.Nat.{ℕ}
 use native.Mathlib.Omega.{arith}
 use lib.ListN.{length, drop}
 use lib.Seq.{length-take-le}
 use Rattle.reading.specs.Limits.{resultBytes}
-use Rattle.reading.specs.Quantifiers.{foundOf, lastIn}
 use Rattle.reading.specs.declared.Found.the-variants.{At}
-use Rattle.elimination.specs.Steps.{quantifiers, eliminated}
-use Rattle.elimination.specs.Stepping.{held, Runs}
-use Rattle.elimination.specs.Running.{isAt, numberOf}
+use Rattle.rules.specs.Steps.{quantifiers, eliminated}
+use Rattle.elimination.specs.Stepping.{held}
+use Rattle.elimination.specs.Running.{Runs, isAt, numberOf}
 use Rattle.elimination.specs.declared.Ran.{Ran}
 use Rattle.elimination.specs.declared.Ran.the-variants as Ran
-use Rattle.elimination.proofs.RunLaws.{Turn, Next, turn-begins, turn-asks, turn-next, turn-stops, turn-ends}
+use Rattle.elimination.proofs.running.RunLaws.{RunTurn, Next, run-begins, run-asks, run-next, run-stopped, run-finishes}
 use Rattle.elimination.proofs.running.steps.Statement.{statement}
 use Rattle.elimination.proofs.running.steps.Tie as tie
 use Rattle.elimination.proofs.running.steps.Reads as reads
@@ -28,7 +27,7 @@ use Rattle.reading.proofs.last_quantifier.Reads as last-quantifier-reads
 
 abbrev Inv-loop : tie.InvT-loop
 Inv-loop cur₀ work₀ len n₀ found₀ left₀ cur work n found left =
-    Turn (held len cur₀) n cur found × (left ≡ isAt found) × (drop resultBytes cur ≡ drop resultBytes cur₀) × (drop resultBytes work ≡ drop resultBytes work₀)
+    RunTurn (held len cur₀) n cur found × (left ≡ isAt found) × (drop resultBytes cur ≡ drop resultBytes cur₀) × (drop resultBytes work ≡ drop resultBytes work₀)
     × (length cur ≡ length cur₀) × (length work ≡ length work₀)
 
 abbrev μ-loop : tie.MeasureT-loop
@@ -53,7 +52,7 @@ went c =
     let l = k .before .before .before .before .before in
     let z : numberOf (k .one-step .result) ≡ 0 = sym (c .before .before .number-of .ensures) ∙ (let e : c .before .before .number-of .result ≡ 0 = omega (arith, c .before .if1 .left) in e) in
     subst (λ (n : ℕ). Next (held (l .before .before .before .before .before .before .args .len) (l .before .before .before .before .before .before .args .cur .now)) (quantifiers (held (l .loop .n) (l .loop .cur))) n (k .one-step .last .0)) (sym (c .length-of .ensures))
-    (turn-next (k .one-step .last .0) (l .loop .work) (k .one-step .last .1 .0) (k .one-step .result) (l .loop .inv .0) (met (k .before .before .before .before)) (k .one-step .ensures) z (same-long k))
+    (run-next (k .one-step .last .0) (l .loop .work) (k .one-step .last .1 .0) (k .one-step .result) (l .loop .inv .0) (met (k .before .before .before .before)) (k .one-step .ensures) z (same-long k))
 
 slice-reshare-prefix-last-quantifier : tie.Need-slice-reshare-prefix-last-quantifier Inv-loop μ-loop
 slice-reshare-prefix-last-quantifier c = let s = c .before .before .pre .0 in omega (arith, s .few, s .long)
@@ -68,7 +67,7 @@ last-quantifier-requires c κs = c .before .before .before .pre .0 .exactly
 loop-holds : tie.Need-loop-holds Inv-loop μ-loop
 loop-holds c =
     let a = c .before .before .before .before .before in
-    (turn-begins (a .args .len) (a .args .cur .now) (c .before .last-quantifier .result) (a .pre .0) (a .pre .1 .0) (c .before .last-quantifier .ensures), c .is-at .ensures, refl, refl, refl, refl)
+    (run-begins (a .args .len) (a .args .cur .now) (c .before .last-quantifier .result) (a .pre .0) (a .pre .1 .0) (c .before .last-quantifier .ensures), c .is-at .ensures, refl, refl, refl, refl)
 
 is-at-requires : tie.Need-is-at-requires Inv-loop μ-loop
 is-at-requires c κs = tt
@@ -83,7 +82,7 @@ one-step-requires : tie.Need-one-step-requires Inv-loop μ-loop
 one-step-requires c κs =
     let l = c .before .before .before .before in
     let i = l .loop .inv in
-    (i .0 .stands, (omega (arith, i .5, l .before .before .before .before .before .before .pre .1 .1), turn-asks (i .0) (met (c .before .before .before)) ∙ ap At (sym (c .before .before .offset-of .ensures))))
+    (i .0 .stands, (omega (arith, i .5, l .before .before .before .before .before .before .pre .1 .1), run-asks (i .0) (met (c .before .before .before)) ∙ ap At (sym (c .before .before .offset-of .ensures))))
 
 number-of-requires : tie.Need-number-of-requires Inv-loop μ-loop
 number-of-requires c κs = tt
@@ -103,7 +102,7 @@ returns c =
     let e = c .before .number-of .ensures in
     subst (λ (r : Ran). Runs (eliminated (held (a .args .len) (a .args .cur .now))) (a .args .cur .now) (k .one-step .last .0) (a .args .work .now) (k .one-step .last .1 .0) r)
     (sym (ap₂ Ran.Refused e (k .before .before .before .offset-of .ensures)))
-    (turn-stops (k .one-step .last .0) (l .loop .work) (k .one-step .last .1 .0) (k .one-step .result) (i .0) (met (k .before .before .before .before)) (k .one-step .ensures) (a .args .cur .now) (a .args .work .now)
+    (run-stopped (k .one-step .last .0) (l .loop .work) (k .one-step .last .1 .0) (k .one-step .result) (i .0) (met (k .before .before .before .before)) (k .one-step .ensures) (a .args .cur .now) (a .args .work .now)
     (omega (arith, e, c .if1 .taken)) (i .2) (i .3))
 
 length-of-requires : tie.Need-length-of-requires Inv-loop μ-loop
@@ -140,7 +139,7 @@ returns-2 : tie.Need-returns-2 Inv-loop μ-loop
 returns-2 c =
     let l = c .before in
     let i = l .loop .inv in
-    turn-ends (l .before .before .before .before .before .before .args .cur .now) (l .before .before .before .before .before .before .args .work .now) (l .loop .work) (i .0) (sym (i .1) ∙ c .loop-test .left) (i .2) (i .3)
+    run-finishes (l .before .before .before .before .before .before .args .cur .now) (l .before .before .before .before .before .before .args .work .now) (l .loop .work) (i .0) (sym (i .1) ∙ c .loop-test .left) (i .2) (i .3)
 
 pub steps-spec : {M : Type 1} → statement M
 steps-spec =

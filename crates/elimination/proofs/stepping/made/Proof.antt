@@ -10,7 +10,7 @@ use Rattle.reading.specs.Reading.{treeOf}
 use Rattle.exact.proofs.Rows.{each-zeros}
 use Rattle.elimination.specs.Gathering.{rowsOf}
 use Rattle.elimination.proofs.stepping.made.Statement.{statement}
-use Rattle.elimination.proofs.Replacing.{Copying, too-big, copying, copying-closable, copying-put, early-numbers, full-early, Found, fine-found}
+use Rattle.elimination.proofs.stepping.Replacing.{Copying, too-big, copying, copying-closable, copying-put, early-numbers, full-early, Found, fine-found}
 use Rattle.elimination.proofs.stepping.made.Tie as tie
 
 slice-aggregate-gather : tie.Need-slice-aggregate-gather
@@ -56,7 +56,7 @@ returns c =
     let a = k .before .before .before .before .before .before .before .before .before .before .before in
     let f = treeOf (a .args .s .now) in (
       early-numbers (a .args .x) f false (found g .few)
-          (too-big (a .args .all) (a .args .x) f (a .pre .free) (rowsOf (g .g .given .0 .1 .0) (g .before .before .before .gather .last .1 .1 .0)) (found g .rows) (k .all-copies .result) (a .args .out .now) (k .all-copies .last .1 .1 .1 .1 .1 .0) (k .all-copies .ensures) (c .if1 .taken)),
+          (too-big (a .args .all) (a .args .x) f (rowsOf (g .g .given .0 .1 .0) (g .before .before .before .gather .last .1 .1 .0)) (found g .rows) (k .all-copies .result) (a .args .out .now) (k .all-copies .last .1 .1 .1 .1 .1 .0) (k .all-copies .ensures) (c .if1 .taken)),
       omega arith,
     )
 
@@ -65,7 +65,7 @@ copies e =
     let k = e .before .before .before in
     let g = k .before .before .before .before in
     let a = k .before .before .before .before .before .before .before .before .before .before .before in
-    copying (a .args .all) (a .args .x) (treeOf (a .args .s .now)) (a .pre .free) (rowsOf (g .g .given .0 .1 .0) (g .before .before .before .gather .last .1 .1 .0)) (found g .rows) (k .all-copies .result) (a .args .out .now) (k .all-copies .last .1 .1 .1 .1 .1 .0) (k .all-copies .ensures) (e .if1 .left)
+    copying (a .args .all) (a .args .x) (treeOf (a .args .s .now)) (rowsOf (g .g .given .0 .1 .0) (g .before .before .before .gather .last .1 .1 .0)) (found g .rows) (k .all-copies .result) (a .args .out .now) (k .all-copies .last .1 .1 .1 .1 .1 .0) (k .all-copies .ensures) (e .if1 .left)
 
 replaced-requires : tie.Need-replaced-requires
 replaced-requires c κs = let e = c .before in copying-closable (copies e) (omega (arith, same-copies (e .before .before .before), e .before .before .before .before .before .before .before .before .before .before .before .before .before .before .pre .room))

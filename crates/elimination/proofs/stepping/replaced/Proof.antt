@@ -1,15 +1,12 @@
 -- `replaced`: by what decides the list of the copies, whether it is over, and how it closes.
+use mathlib.Core.Bool as Bool
 use mathlib.Core.Path.{_≡_, sym, _∙_, ap}
 use native.Mathlib.Omega.{arith}
 use lib.ListN.{length}
 use borrow.Author.Needs.{needs}
-use Rattle.elimination.specs.Pushing.{flip}
 use Rattle.elimination.proofs.stepping.replaced.Statement.{statement}
-use Rattle.elimination.proofs.Replacing.{put-fixed, put-large, closed-decided, closed-kept, closed-big}
+use Rattle.elimination.proofs.stepping.Replacing.{put-fixed, put-large, closed-decided, closed-kept, closed-big}
 use Rattle.elimination.proofs.stepping.replaced.Tie as tie
-
-flip-requires : tie.Need-flip-requires
-flip-requires c κs = tt
 
 sure-requires : tie.Need-sure-requires
 sure-requires c κs = c .before .before .before .before .before .pre .record-room
@@ -20,7 +17,7 @@ same-length c = omega arith
 returns : tie.Need-returns
 returns c = λ all x gs o₀ l.
     let k = c .before .before in
-    put-fixed all x gs _ _ _ (sym (l .1) ∙ k .before .before .before .if1 .taken) (k .before .flip .ensures ∙ ap flip (l .2 .same)) (k .sure .ensures)
+    put-fixed all x gs _ _ _ (sym (l .1) ∙ k .before .before .before .if1 .taken) (ap Bool.not (l .2 .same)) (k .sure .ensures)
 
 add-result : tie.Need-add-result
 add-result c = omega arith
@@ -83,7 +80,6 @@ pub replaced-spec : {M : Type 1} → statement M
 replaced-spec =
     tie.close
     (tie.spec
-    flip-requires
     sure-requires
     same-length
     returns

@@ -4,7 +4,7 @@ use Prim.Native.Nat.{ℕ, _+_, _-_, _*_, _≤_}
 use native.Mathlib.Omega.{arith}
 use lib.ListN.{length, length-replicate}
 use Rattle.reading.specs.Limits.{resultBytes, sheetBytes}
-use Rattle.elimination.proofs.WholeStep.{room-cleared}
+use Rattle.elimination.proofs.stepping.WholeStep.{room-cleared}
 use Rattle.elimination.proofs.stepping.short_step.Statement.{statement}
 use Rattle.elimination.proofs.stepping.short_step.Tie as tie
 

@@ -1,7 +1,7 @@
 -- `sure`: the record of a list of no formulas is all of its bytes.
 use native.Mathlib.Omega.{arith}
 use Rattle.elimination.proofs.stepping.sure.Statement.{statement}
-use Rattle.elimination.proofs.Replacing.{sure-put}
+use Rattle.elimination.proofs.stepping.Replacing.{sure-put}
 use Rattle.elimination.proofs.stepping.sure.Tie as tie
 
 put-list-requires : tie.Need-put-list-requires

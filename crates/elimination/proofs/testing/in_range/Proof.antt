@@ -1,10 +1,9 @@
 -- A signed test on each side is a test of the size.
-use mathlib.Core.Path.{_≡_, sym, _∙_, ap, subst}
-use mathlib.Core.Bool.{true, false}
+use mathlib.Core.Path.{sym, _∙_, ap}
 use lib.IntN.{ℤ, pos, negsuc}
 use lib.Signed.{ltZ, leZ}
 use Rattle.exact.proofs.Sizes.{rd}
-use Rattle.elimination.proofs.TestLaws.{range-below, range-rest}
+use Rattle.elimination.proofs.testing.TestLaws.{range-below, range-rest}
 use borrow.Author.Needs.{needs}
 use Rattle.elimination.proofs.testing.in_range.Statement.{statement}
 use Rattle.elimination.proofs.testing.in_range.Tie as tie

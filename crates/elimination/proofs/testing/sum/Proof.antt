@@ -1,6 +1,6 @@
 -- The sum of nine products, from the front; its size is a law, not part of what the loop keeps.
 use borrow.Author.Needs.{needs}
-use mathlib.Core.Path.{_≡_, sym, _∙_, ap₂, subst}
+use mathlib.Core.Path.{sym, _∙_, ap₂, subst}
 use Prim.Native.Nat.{_+_, _-_, _≤_, zero-le}
 use native.Mathlib.Omega.{arith}
 use lib.IntN.{ℤ, _+ℤ_, _*ℤ_}
@@ -8,7 +8,7 @@ use mir.Syntax.{w64}
 use mir.Val.{toZ}
 use Rattle.exact.proofs.Sizes.{rd, ok, in-more}
 use Rattle.exact.proofs.Rows.{rd-at, in-at}
-use Rattle.elimination.proofs.TestLaws.{Summed, summed-none, summed-more, summed-done}
+use Rattle.elimination.proofs.testing.TestLaws.{Summed, summed-none, summed-more, summed-done}
 use Rattle.elimination.proofs.testing.sum.Statement.{statement}
 use Rattle.elimination.proofs.testing.sum.Tie as tie
 

@@ -1,19 +1,17 @@
 -- The order of the answers: what reading refuses, then a quantifier, then the values, then the truth.
-use mathlib.Core.Path.{_≡_, sym, _∙_, ap, subst}
-use mathlib.Core.Bool.{Bool, true, false}
-use Prim.Native.Nat.{ℕ}
-use native.Mathlib.Nat.{le-refl}
+use native.Mathlib.Omega.{arith}
+use mathlib.Core.Path.{_≡_, sym, _∙_, ap}
+use mathlib.Core.Bool.{cond}
+use Rattle.reading.specs.Bytes.{Bytes}
 use Rattle.reading.specs.Limits.{resultBytes, resultLevels}
-use Rattle.reading.specs.Formula.{Free}
-use Rattle.reading.specs.Records.{pick}
 use Rattle.reading.specs.Reading.{treeOf, Exactly}
 use Rattle.reading.specs.Answers.{reading}
-use Rattle.reading.specs.Quantifiers.{Quantifier, nothing, at, foundOf, firstIn}
+use Rattle.reading.specs.Quantifiers.{foundOf, firstIn}
 use Rattle.reading.specs.declared.Reply.the-variants.{Done}
 use Rattle.reading.specs.declared.Found.the-variants.{Nothing}
 use Rattle.reading.proofs.Trees.{accepted-exactly, begins}
 use Rattle.elimination.specs.declared.Holds.{Holds}
-use Rattle.elimination.proofs.TestLaws.{allowed-each, none-free, tested-refused, tested-quantified, tested-range, tested-done}
+use Rattle.elimination.proofs.testing.TestLaws.{allowed-each, none-free, tested-refused, tested-quantified, tested-range, tested-done}
 use borrow.Author.Needs.{needs}
 use Rattle.elimination.proofs.testing.test.Statement.{statement}
 use Rattle.elimination.proofs.testing.test.Tie as tie
@@ -31,10 +29,11 @@ enum-told c = search needs
 done : (c : tie.After-enum-told) → reading resultBytes resultLevels (c .before .before .before .before .args .sheet .now) ≡ Done (c .enum-told .given .0 .0)
 done c = sym (c .before .before .read-whole .ensures) ∙ c .enum-told .given .1
 
+bytes : (c : tie.After-enum-told) → Bytes (c .before .before .before .before .args .sheet .now)
+bytes c = λ i. c .before .before .before .shared-slice-known .given i .fits
+
 whole : (c : tie.After-enum-told) → let s = c .before .before .before .before .args .sheet .now in Exactly s (treeOf s)
-whole c =
-    let a = c .before .before .before in
-    accepted-exactly resultBytes resultLevels (a .before .args .sheet .now) (le-refl resultLevels) (λ i. a .shared-slice-known .given i .fits) (done c)
+whole c = accepted-exactly resultBytes resultLevels (c .before .before .before .before .args .sheet .now) (omega arith) (bytes c) (done c)
 
 -- it has no quantifier
 none : (c : tie.After-enum-told2) → foundOf (firstIn (treeOf (c .before .before .before .before .before .before .before .args .sheet .now))) ≡ Nothing
@@ -65,7 +64,7 @@ returns c =
     let h = c .before in
     let t = h .before in
     let n = t .before .before in
-    tested-done (n .before .before .before .before .before .before .before .args .w) (done (n .before .before .before)) (whole (n .before .before .before)) (none n) (sym (t .before .allowed .ensures) ∙ t .if1 .taken) (c .verdict-of .ensures ∙ ap (λ (y : Holds). pick (y .holds) 1 0) (h .holds-at .ensures))
+    tested-done (n .before .before .before .before .before .before .before .args .sheet .now) (n .before .before .before .before .before .before .before .args .w) (done (n .before .before .before)) (bytes (n .before .before .before)) (none n) (sym (t .before .allowed .ensures) ∙ t .if1 .taken) (c .verdict-of .ensures ∙ ap (λ (y : Holds). cond (y .holds) 1 0) (h .holds-at .ensures))
 
 returns-2 : tie.Need-returns-2
 returns-2 c =
@@ -76,12 +75,12 @@ returns-3 : tie.Need-returns-3
 returns-3 c =
     let q = c .before .before .before in
     let d = q .before in
-    tested-quantified (d .before .before .before .before .args .w) (done d) (whole d) (sym (q .first-quantifier .ensures) ∙ c .before .place .given .1)
+    tested-quantified (d .before .before .before .before .args .sheet .now) (d .before .before .before .before .args .w) (done d) (bytes d) (sym (q .first-quantifier .ensures) ∙ c .before .place .given .1)
 
 returns-4 : tie.Need-returns-4
 returns-4 c =
     let n = c .before .before in
-    tested-range (n .before .before .before .before .before .before .before .args .w) (done (n .before .before .before)) (whole (n .before .before .before)) (none n) (sym (c .before .allowed .ensures) ∙ c .if1 .left)
+    tested-range (n .before .before .before .before .before .before .before .args .sheet .now) (n .before .before .before .before .before .before .before .args .w) (done (n .before .before .before)) (bytes (n .before .before .before)) (none n) (sym (c .before .allowed .ensures) ∙ c .if1 .left)
 
 pub test-spec : {M : Type 1} → statement M
 test-spec =

@@ -10,15 +10,14 @@ use borrow.Author.Needs.{needs}
 use Rattle.reading.specs.Formula.{Formula, none}
 use Rattle.reading.specs.Reading.{treeOf}
 use Rattle.exact.specs.Atoms.{Spot, below, above}
-use Rattle.elimination.specs.Points.{allMidpoints, points}
+use Rattle.rules.specs.Points.{allMidpoints, points}
+use Rattle.rules.specs.Pushing.{push}
+use Rattle.elimination.specs.Listing.{going, tally}
 use Rattle.elimination.specs.Gathering.{rowsOf}
-use Rattle.elimination.specs.Copying.{going}
-use Rattle.elimination.specs.Listing.{Lists}
-use Rattle.elimination.specs.Stepping.{tallyAll}
-use Rattle.elimination.specs.Trying.{Copiable, Holding, Tries}
+use Rattle.elimination.specs.Trying.{Lists, tryAll, Copiable, Holding, Tries}
 use Rattle.elimination.specs.declared.Open.{Open}
 use Rattle.elimination.specs.declared.Copies.{Copies}
-use Rattle.elimination.proofs.PointLaws.{opened-lists, Way, way-start, way-more, way-last, way-big, points-none, points-first, points-some}
+use Rattle.elimination.proofs.trying.PointLaws.{opened-lists, Way, way-start, way-more, way-last, way-big, points-none, points-first, points-some}
 use Rattle.elimination.proofs.trying.all_copies.Statement.{statement}
 use Rattle.elimination.proofs.trying.all_copies.Tie as tie
 
@@ -32,8 +31,8 @@ module _ (k : tie.After-opened) where
   abbrev out : List ℕ
   out = start .args .out .now
 
-  abbrev tree : Formula
-  tree = treeOf (start .args .s .now)
+  abbrev pushed : Formula
+  pushed = push false (treeOf (start .args .s .now))
 
   abbrev rows : List Spot
   rows = allMidpoints (start .args .x) (rowsOf (start .args .n) (start .args .ts .now))
@@ -45,12 +44,12 @@ module _ (k : tie.After-opened) where
   lists = subst (λ (l : Open). Lists (start .args .all) (going false none) (record { list = l; over = false; big = false }) out out) (sym (k .opened .ensures)) (opened-lists (start .args .all) out (let h = start .pre .0 .room in omega arith))
 
   holding : Holding first out
-  holding = record { all = start .args .all; tally = going false none; before = out; lists = lists; small = refl }
+  holding = record { all = start .args .all; so-far = going false none; before = out; lists = lists; small = refl }
 
-  way : Way first first spots spots tree out out
-  way = way-start spots tree holding
+  way : Way first first spots spots pushed out out
+  way = way-start spots pushed holding
 
-  ends : (o : List ℕ) (x : Copies) → Tries first spots tree out o x → Lists (start .args .all) (tallyAll (start .args .all) (going false none) spots tree) x out o
+  ends : (o : List ℕ) (x : Copies) → Tries first (tryAll spots pushed) out o x → Lists (start .args .all) (tally (start .args .all) (going false none) (tryAll spots pushed)) x out o
   ends o x t = t (start .args .all) (going false none) out lists
 
 opened-requires : tie.Need-opened-requires
@@ -91,7 +90,7 @@ returns-2 c =
 below-way : (c : tie.Else2) →
     let k = c .before .before .before .before in
     let b = k .before .before in
-    Way (first b) (k .far .result) (spots b) ((above (start b .args .x) ∷ []) ++ rows b) (tree b) (out b) (low-out k)
+    Way (first b) (k .far .result) (spots b) ((above (start b .args .x) ∷ []) ++ rows b) (pushed b) (out b) (low-out k)
 below-way c =
     let k = c .before .before .before .before in
     let b = k .before .before in
@@ -130,7 +129,7 @@ returns-3 c =
 above-way : (c : tie.Else3) →
     let k = c .before .before .before in
     let b = k .before .before .before .before .before .before .before .before in
-    Way (first b) (k .far2 .result) (spots b) (rows b) (tree b) (out b) (high-out k)
+    Way (first b) (k .far2 .result) (spots b) (rows b) (pushed b) (out b) (high-out k)
 above-way c =
     let k = c .before .before .before in
     let e = k .before .before in

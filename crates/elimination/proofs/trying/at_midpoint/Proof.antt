@@ -1,5 +1,6 @@
 -- `at_midpoint` meets its contract: each part of the table is a row, and the midpoint's own numbers are judged before the copy. Assumes nothing.
 use mathlib.Core.Path.{_≡_, refl, sym, _∙_, ap, ap₂, subst}
+use mathlib.Core.Bool.{false}
 use mathlib.Core.List.{List, [], _∷_}
 use lib.IntN.{ℤ}
 use borrow.Author.Needs.{needs}
@@ -11,8 +12,9 @@ use Rattle.exact.specs.Atoms.{here}
 use Rattle.exact.proofs.Rows.{all-each}
 use Rattle.exact.proofs.Terms.{each-midpoint}
 use Rattle.elimination.specs.Gathering.{rowAt}
-use Rattle.elimination.specs.Trying.{Tries}
-use Rattle.elimination.proofs.PointLaws.{try-fits, try-big, holding-bounds, part-is, part-long, part-small}
+use Rattle.rules.specs.Pushing.{push}
+use Rattle.elimination.specs.Trying.{Tries, tryAll}
+use Rattle.elimination.proofs.trying.PointLaws.{try-fits, try-big, holding-bounds, part-is, part-long, part-small}
 use Rattle.elimination.proofs.trying.at_midpoint.Statement.{statement}
 use Rattle.elimination.proofs.trying.at_midpoint.Tie as tie
 
@@ -93,8 +95,8 @@ returns c =
     let m = w .before .before in
     let a = m .before .before .before .before .before in
     let z = m .midpoint .result in
-    subst (λ (y : List ℤ). Tries (a .args .c) (here (a .args .x) y ∷ []) (treeOf (a .args .s .now)) (a .args .out .now) (k .with-copy .last .1 .1 .1 .0) (k .with-copy .result)) (is m)
-    (try-fits (a .args .c) (here (a .args .x) z) (treeOf (a .args .s .now)) (a .args .out .now) (k .with-copy .last .1 .1 .1 .0) (k .with-copy .result) (sym (w .within-all .ensures) ∙ e .if1 .taken) (k .with-copy .ensures))
+    subst (λ (y : List ℤ). Tries (a .args .c) (tryAll (here (a .args .x) y ∷ []) (push false (treeOf (a .args .s .now)))) (a .args .out .now) (k .with-copy .last .1 .1 .1 .0) (k .with-copy .result)) (is m)
+    (try-fits (a .args .c) (here (a .args .x) z) (push false (treeOf (a .args .s .now))) (a .args .out .now) (k .with-copy .last .1 .1 .1 .0) (k .with-copy .result) (sym (w .within-all .ensures) ∙ e .if1 .taken) (k .with-copy .ensures))
 
 returns-2 : tie.Need-returns-2
 returns-2 c =
@@ -102,7 +104,7 @@ returns-2 c =
     let w = e .before in
     let m = w .before .before in
     let a = m .before .before .before .before .before in
-    try-big (a .args .c) (here (a .args .x) (midpoint (rowAt (a .args .ts .now) (a .args .i)) (rowAt (a .args .ts .now) (a .args .j)))) (treeOf (a .args .s .now)) (a .args .out .now) (a .args .out .now) _
+    try-big (a .args .c) (here (a .args .x) (midpoint (rowAt (a .args .ts .now) (a .args .i)) (rowAt (a .args .ts .now) (a .args .j)))) (push false (treeOf (a .args .s .now))) (a .args .out .now) (a .args .out .now) _
     (sym (w .within-all .ensures ∙ ap (allIn M) (is m)) ∙ e .if1 .left) refl
 
 pub at-midpoint-spec : {M : Type 1} → statement M

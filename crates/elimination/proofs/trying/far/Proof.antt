@@ -1,11 +1,13 @@
 -- `far` meets its contract: a point that is no fraction has zeros beside it, which are small. Assumes nothing.
 use lib.IntN.{pos}
 use lib.ListN.{replicate}
+use mathlib.Core.Bool.{false}
 use borrow.Author.Needs.{needs}
 use Rattle.reading.specs.Reading.{treeOf}
 use Rattle.exact.specs.Atoms.{spotBy}
 use Rattle.exact.proofs.Rows.{each-zeros}
-use Rattle.elimination.proofs.PointLaws.{try-fits, far-fits, holding-bounds}
+use Rattle.rules.specs.Pushing.{push}
+use Rattle.elimination.proofs.trying.PointLaws.{try-fits, far-fits, holding-bounds}
 use Rattle.elimination.proofs.trying.far.Statement.{statement}
 use Rattle.elimination.proofs.trying.far.Tie as tie
 
@@ -22,7 +24,7 @@ returns : tie.Need-returns
 returns c =
     let k = c .before .before in
     let a = k .before .before .before .before in
-    try-fits (a .args .c) (spotBy (a .args .kind) (a .args .x) (replicate 10 (pos 0))) (treeOf (a .args .s .now)) (a .args .out .now) (k .with-copy .last .1 .1 .1 .0) (k .with-copy .result)
+    try-fits (a .args .c) (spotBy (a .args .kind) (a .args .x) (replicate 10 (pos 0))) (push false (treeOf (a .args .s .now))) (a .args .out .now) (k .with-copy .last .1 .1 .1 .0) (k .with-copy .result)
     (far-fits (a .args .kind) (a .args .x)) (k .with-copy .ensures)
 
 pub far-spec : {M : Type 1} → statement M

@@ -1,21 +1,23 @@
 -- `row_of` meets its contract: before each turn the midpoints from term j on are still to come (`Way`). Assumes nothing.
 use mathlib.Core.Path.{_≡_, sym, _∙_, subst}
 use mathlib.Core.List.{[], _∷_}
+use mathlib.Core.Bool.{false}
 use Prim.Native.Nat.{_+_, _-_}
 use native.Mathlib.Omega.{arith}
 use lib.ListN.{length, drop}
 use Rattle.reading.specs.Reading.{treeOf}
 use Rattle.exact.specs.Terms.{midpoint}
 use Rattle.exact.specs.Atoms.{here}
-use Rattle.elimination.specs.Points.{midpoints}
+use Rattle.rules.specs.Points.{midpoints}
+use Rattle.rules.specs.Pushing.{push}
 use Rattle.elimination.specs.Gathering.{rowAt, rowsOf}
 use Rattle.elimination.specs.Trying.{Copiable}
-use Rattle.elimination.proofs.PointLaws.{Way, way-start, way-more, way-end, way-big, mid-turn, mid-end}
+use Rattle.elimination.proofs.trying.PointLaws.{Way, way-start, way-more, way-end, way-big, mid-turn, mid-end}
 use Rattle.elimination.proofs.trying.row_of.Statement.{statement}
 use Rattle.elimination.proofs.trying.row_of.Tie as tie
 
 abbrev Inv-loop : tie.InvT-loop
-Inv-loop s x ts n i out₀ d₀ j₀ out d j = Way d₀ d (midpoints x (rowAt ts i) (drop i (rowsOf n ts))) (midpoints x (rowAt ts i) (drop j (rowsOf n ts))) (treeOf s) out₀ out
+Inv-loop s x ts n i out₀ d₀ j₀ out d j = Way d₀ d (midpoints x (rowAt ts i) (drop i (rowsOf n ts))) (midpoints x (rowAt ts i) (drop j (rowsOf n ts))) (push false (treeOf s)) out₀ out
 
 abbrev μ-loop : tie.MeasureT-loop
 μ-loop s x ts n i out₀ d₀ j₀ out d j = n - j
@@ -24,7 +26,7 @@ loop-holds : tie.Need-loop-holds Inv-loop μ-loop
 loop-holds c =
     let a = c .before .before in
     let ts = a .args .ts .now in
-    way-start (midpoints (a .args .x) (rowAt ts (a .args .i)) (drop (a .args .i) (rowsOf (a .args .n) ts))) (treeOf (a .args .s .now)) (a .pre .1 .1 .1)
+    way-start (midpoints (a .args .x) (rowAt ts (a .args .i)) (drop (a .args .i) (rowsOf (a .args .n) ts))) (push false (treeOf (a .args .s .now))) (a .pre .1 .1 .1)
 
 at-midpoint-requires : tie.Need-at-midpoint-requires Inv-loop μ-loop
 at-midpoint-requires c κs =

@@ -9,7 +9,7 @@ use mir.Val.{Fits, toZ, ofZ}
 use Rattle.reading.specs.Limits.{M}
 use Rattle.exact.proofs.Sizes.{fits, rd, fits-as, in-+, in-lit, lt-taken, lt-left, ge-nonNeg}
 use Rattle.elimination.proofs.writing.bits.Statement.{statement}
-use Rattle.elimination.proofs.Lay.{bits-high, bits-low, bits-fit}
+use Rattle.elimination.proofs.writing.Lay.{bits-high, bits-low, bits-fit}
 use Rattle.elimination.proofs.writing.bits.Tie as tie
 
 add-result : tie.Need-add-result

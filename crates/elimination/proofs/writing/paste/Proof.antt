@@ -5,7 +5,7 @@ use native.Mathlib.Omega.{arith}
 use lib.ListN.{length, take, drop, getD, length-set}
 use Rattle.elimination.specs.Writing.{lay}
 use Rattle.elimination.proofs.writing.paste.Statement.{statement}
-use Rattle.elimination.proofs.Moving.{paste-begins, paste-turn, paste-ends}
+use Rattle.elimination.proofs.writing.Moving.{paste-begins, paste-turn, paste-ends}
 use Rattle.elimination.proofs.writing.paste.Tie as tie
 
 abbrev Inv-loop : tie.InvT-loop

@@ -2,7 +2,7 @@
 use borrow.Author.Needs.{needs}
 use Rattle.reading.specs.Limits.{M}
 use Rattle.elimination.proofs.writing.put_atom.Statement.{statement}
-use Rattle.elimination.proofs.Lay.{lay-atom}
+use Rattle.elimination.proofs.writing.Lay.{lay-atom}
 use Rattle.elimination.proofs.writing.put_atom.Tie as tie
 
 put-u16-requires : tie.Need-put-u16-requires

@@ -5,7 +5,7 @@ use Rattle.reading.specs.Limits.{M}
 use Rattle.exact.specs.Numbers.{Within}
 use Rattle.exact.proofs.Sizes.{rd}
 use Rattle.elimination.proofs.writing.put_int.Statement.{statement}
-use Rattle.elimination.proofs.Lay.{lay-int}
+use Rattle.elimination.proofs.writing.Lay.{lay-int}
 use Rattle.elimination.proofs.writing.put_int.Tie as tie
 
 bits-requires : tie.Need-bits-requires

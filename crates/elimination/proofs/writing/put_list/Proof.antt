@@ -5,7 +5,7 @@ use native.Mathlib.Omega.{arith}
 use borrow.Author.Needs.{needs}
 use Rattle.reading.specs.Limits.{M}
 use Rattle.elimination.proofs.writing.put_list.Statement.{statement}
-use Rattle.elimination.proofs.Lay.{lay-list, list-no}
+use Rattle.elimination.proofs.writing.Lay.{lay-list, list-no}
 use Rattle.elimination.proofs.writing.put_list.Tie as tie
 
 put-u16-requires : tie.Need-put-u16-requires

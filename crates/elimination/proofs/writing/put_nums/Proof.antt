@@ -10,7 +10,7 @@ use Rattle.exact.specs.Numbers.{Within}
 use Rattle.exact.proofs.Rows.{rd-at}
 use Rattle.elimination.specs.Writing.{lay}
 use Rattle.elimination.proofs.writing.put_nums.Statement.{statement}
-use Rattle.elimination.proofs.Lay.{nums-turn, nums-end}
+use Rattle.elimination.proofs.writing.Lay.{nums-turn, nums-end}
 use Rattle.elimination.proofs.writing.put_nums.Tie as tie
 
 abbrev Inv-loop : tie.InvT-loop

@@ -3,7 +3,7 @@ use borrow.Author.Needs.{needs}
 use Rattle.reading.specs.Bytes.{bytes2}
 use Rattle.reading.specs.Limits.{M}
 use Rattle.elimination.proofs.writing.put_u32.Statement.{statement}
-use Rattle.elimination.proofs.Lay.{lay-two}
+use Rattle.elimination.proofs.writing.Lay.{lay-two}
 use Rattle.elimination.proofs.writing.put_u32.Tie as tie
 
 put-u16-requires : tie.Need-put-u16-requires

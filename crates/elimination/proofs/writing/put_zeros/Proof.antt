@@ -6,9 +6,9 @@ use lib.ListN.{length, length-set}
 use borrow.Author.Needs.{needs}
 use Rattle.reading.specs.Limits.{M}
 use Rattle.elimination.specs.Writing.{lay}
-use Rattle.elimination.specs.Eliminate.{zeros}
+use Rattle.rules.specs.Eliminate.{zeros}
 use Rattle.elimination.proofs.writing.put_zeros.Statement.{statement}
-use Rattle.elimination.proofs.Lay.{zeros-turn, zeros-end}
+use Rattle.elimination.proofs.writing.Lay.{zeros-turn, zeros-end}
 use Rattle.elimination.proofs.writing.put_zeros.Tie as tie
 
 abbrev Inv-loop : tie.InvT-loop

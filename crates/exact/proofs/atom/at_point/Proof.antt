@@ -11,7 +11,7 @@ use Rattle.exact.specs.Numbers.{Within}
 use Rattle.exact.specs.Terms.{leftAt}
 use Rattle.exact.specs.Atoms.{pointAt}
 use Rattle.exact.proofs.Sizes.{rd, ok}
-use Rattle.exact.proofs.Loops.{Filled, fill-none, fill-more}
+use Rattle.reading.proofs.Filling.{Filled, fill-none, fill-more}
 use Rattle.exact.proofs.Rows.{rd-at, in-at}
 use Rattle.exact.proofs.Terms.{in-left}
 use Rattle.exact.proofs.Atoms.{point-is, point-done}

@@ -7,21 +7,21 @@ use borrow.Author.Tests.{eq-eqb, ne-eqb}
 use lib.ListN.{length, drop, getD}
 use lib.IntN.{pos}
 use Rattle.exact.specs.Numbers.{isZero}
-use Rattle.exact.specs.Atoms.{zeros}
+use Rattle.exact.specs.Atoms.{allZero}
 use Rattle.exact.proofs.Sizes.{ok, bits-eqb}
 use Rattle.exact.proofs.Loops.{all-turn, all-stop, all-end, allB}
-use Rattle.exact.proofs.Rows.{zeros-is}
+use Rattle.exact.proofs.Rows.{allZero-is}
 use Rattle.exact.proofs.row.all_zero.Statement.{statement}
 use Rattle.exact.proofs.row.all_zero.Tie as tie
 
 abbrev Inv-loop : tie.InvT-loop
-Inv-loop s i₀ i = (i ≤ length s) × (allB isZero (drop i s) ≡ zeros s)
+Inv-loop s i₀ i = (i ≤ length s) × (allB isZero (drop i s) ≡ allZero s)
 
 abbrev μ-loop : tie.MeasureT-loop
 μ-loop s i₀ i = length s - i
 
 loop-holds : tie.Need-loop-holds Inv-loop μ-loop
-loop-holds c = (zero-le, sym (zeros-is _))
+loop-holds c = (zero-le, sym (allZero-is _))
 
 mul-x : tie.Need-mul-x Inv-loop μ-loop
 mul-x c = search needs

@@ -5,14 +5,14 @@ use Prim.Native.Nat.{ℕ, _≤_, _<_, _-_}
 use lib.ListN.{length, getD}
 use lib.IntN.{pos}
 use Rattle.exact.specs.Numbers.{Within}
-use Rattle.exact.specs.Divisor.{quots, over}
+use Rattle.exact.specs.Divisor.{quots, dividedBy}
 use Rattle.exact.proofs.Sizes.{rd, ok, fits}
 use Rattle.exact.proofs.Loops.{Mapped, map-none, map-length, map-at, map-more, map-done}
 use Rattle.exact.proofs.row.div_all.Statement.{statement}
 use Rattle.exact.proofs.row.div_all.Tie as tie
 
 abbrev Inv-loop : tie.InvT-loop
-Inv-loop s₀ g i₀ s i = Mapped (over g) s₀ s i × (length s ≡ length s₀)
+Inv-loop s₀ g i₀ s i = Mapped (dividedBy g) s₀ s i × (length s ≡ length s₀)
 
 abbrev μ-loop : tie.MeasureT-loop
 μ-loop s₀ g i₀ s i = length s₀ - i
@@ -52,7 +52,7 @@ loop-again : tie.Need-loop-again Inv-loop μ-loop
 loop-again c =
     let t = c .before .before in
     let m = map-more _ _ (pos 0) _ (subst (λ (n : ℕ). t .before .loop .i < n) (t .before .loop .inv .1) (t .loop-test .taken)) (t .before .loop .inv .0)
-    (rd (ok (c .quot .result) (c .quot .ok)) ∙ c .quot .ensures ∙ ap (over _) (rd (fits (in-here t) tt) ∙ here t)) in
+    (rd (ok (c .quot .result) (c .quot .ok)) ∙ c .quot .ensures ∙ ap (dividedBy _) (rd (fits (in-here t) tt) ∙ here t)) in
     (m, map-length _ _ m)
 
 same-length : tie.Need-same-length Inv-loop μ-loop

@@ -6,7 +6,7 @@ use native.Mathlib.Omega.{arith}
 use lib.IntN.{ℤ, pos, _+ℤ_, _*ℤ_}
 use Rattle.exact.specs.Terms.{midAt}
 use Rattle.exact.proofs.Sizes.{rd, ok}
-use Rattle.exact.proofs.Loops.{Filled, fill-none, fill-more}
+use Rattle.reading.proofs.Filling.{Filled, fill-none, fill-more}
 use Rattle.exact.proofs.Rows.{rd-at, in-at}
 use Rattle.exact.proofs.Terms.{mid-low, mid-done}
 use Rattle.exact.proofs.term.mid_raw.Statement.{statement}

@@ -10,7 +10,7 @@ use Rattle.reading.specs.Limits.{M}
 use Rattle.exact.specs.Numbers.{Within}
 use Rattle.exact.specs.Terms.{termAt, turned}
 use Rattle.exact.proofs.Sizes.{ok, rd}
-use Rattle.exact.proofs.Loops.{Filled, fill-more, fill-none}
+use Rattle.reading.proofs.Filling.{Filled, fill-more, fill-none}
 use Rattle.exact.proofs.Rows.{in-at, rd-at}
 use Rattle.exact.proofs.Terms.{in-left, term-done, term-low}
 use Rattle.exact.proofs.term.term_raw.Statement.{statement}

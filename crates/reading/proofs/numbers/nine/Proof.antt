@@ -5,19 +5,21 @@ use Prim.Native.Nat.{ℕ, _≤_, _-_, _+_, _*_, zero-le}
 use native.Mathlib.Omega.{arith}
 use mir.Syntax.{w64}
 use mir.ValLaws.{toZ-ofZ}
+use lib.IntN.{pos}
 use Rattle.reading.specs.Bytes.{int4}
-use Rattle.reading.proofs.Ints.{Filled, fill-none, fill-more, nine-done}
+use Rattle.reading.proofs.Filling.{Filled, fill-none, fill-more}
+use Rattle.reading.proofs.Ints.{nine-done}
 use Rattle.reading.proofs.numbers.nine.Statement.{statement}
 use Rattle.reading.proofs.numbers.nine.Tie as tie
 
 abbrev Inv-loop : tie.InvT-loop
-Inv-loop s m₀ i₀ m i = (i ≤ 9) × Filled (λ (j : ℕ). int4 s (4 + 4 * j)) m i
+Inv-loop s m₀ i₀ m i = (i ≤ 9) × Filled (pos 0) (λ (j : ℕ). int4 s (4 + 4 * j)) 9 m i
 
 abbrev μ-loop : tie.MeasureT-loop
 μ-loop s m₀ i₀ m i = 9 - i
 
 loop-holds : tie.Need-loop-holds Inv-loop μ-loop
-loop-holds c = (zero-le, fill-none _ refl)
+loop-holds c = (zero-le, fill-none _ _ _ refl)
 
 mul-int-at : tie.Need-mul-int-at Inv-loop μ-loop
 mul-int-at c = search needs
@@ -43,7 +45,7 @@ loop-less c = search needs
 loop-again : tie.Need-loop-again Inv-loop μ-loop
 loop-again c =
     let b = c .before .before in
-    (omega (arith, c .before .loop-test .taken), fill-more _ _ (c .before .loop-test .taken) (b .loop .inv .1) (toZ-ofZ w64 (c .int-at .result) (record { sfits = c .int-at .ok }) ∙ c .int-at .ensures))
+    (omega (arith, c .before .loop-test .taken), fill-more _ _ _ _ (c .before .loop-test .taken) (b .loop .inv .1) (toZ-ofZ w64 (c .int-at .result) (record { sfits = c .int-at .ok }) ∙ c .int-at .ensures))
 
 returns : tie.Need-returns Inv-loop μ-loop
 returns c =

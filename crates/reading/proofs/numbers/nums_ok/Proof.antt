@@ -5,7 +5,7 @@ use native.Mathlib.Omega.{arith}
 use native.Mathlib.Nat.{sub-zero}
 use Prim.Native.Nat.{_+_, _-_, _*_, _≤_, zero-le}
 use Rattle.reading.specs.Records.{allM}
-use Rattle.reading.proofs.Signed.{tested, allM-more, allM-not, allM-none}
+use Rattle.reading.proofs.Signed.{inM-read, allM-more, allM-not, allM-none}
 use Rattle.reading.proofs.numbers.nums_ok.Statement.{statement}
 use Rattle.reading.proofs.numbers.nums_ok.Tie as tie
 
@@ -37,13 +37,13 @@ loop-again : tie.Need-loop-again Inv-loop μ-loop
 loop-again c =
     let l = c .before .before .before .before in
     let a = l .before .before .args in
-    (omega arith, omega arith, allM-more (a .s .now) (a .n) (l .loop .i) (l .loop .p) (allM (a .n) (a .at) (a .s .now)) (c .before .before .before .loop-test .taken) (tested (a .s .now) (l .loop .p) (c .before .before .u32-at .ensures) (c .before .in-m .ensures) (c .if1 .taken)) (l .loop .inv .2))
+    (omega arith, omega arith, allM-more (a .s .now) (a .n) (l .loop .i) (l .loop .p) (allM (a .n) (a .at) (a .s .now)) (c .before .before .before .loop-test .taken) (inM-read (a .s .now) (l .loop .p) (c .before .before .u32-at .ensures) (c .before .in-m .ensures) (c .if1 .taken)) (l .loop .inv .2))
 
 returns : tie.Need-returns Inv-loop μ-loop
 returns c =
     let l = c .before .before .before .before in
     let a = l .before .before .args in
-    sym (allM-not (a .s .now) (a .n) (l .loop .i) (l .loop .p) (allM (a .n) (a .at) (a .s .now)) (c .before .before .before .loop-test .taken) (tested (a .s .now) (l .loop .p) (c .before .before .u32-at .ensures) (c .before .in-m .ensures) (c .if1 .left)) (l .loop .inv .2))
+    sym (allM-not (a .s .now) (a .n) (l .loop .i) (l .loop .p) (allM (a .n) (a .at) (a .s .now)) (c .before .before .before .loop-test .taken) (inM-read (a .s .now) (l .loop .p) (c .before .before .u32-at .ensures) (c .before .in-m .ensures) (c .if1 .left)) (l .loop .inv .2))
 
 returns-2 : tie.Need-returns-2 Inv-loop μ-loop
 returns-2 c =

@@ -6,7 +6,7 @@ use lib.ListN.{length}
 use mathlib.Core.Bool.{true}
 use Rattle.reading.specs.Reading.{treeOf}
 use Rattle.reading.specs.Quantifiers.{lastIn, foundOf}
-use Rattle.reading.proofs.Scan.{Walk, Step, walk-begins, walk-step, walk-ends}
+use Rattle.reading.proofs.Scan.{Scanned, ScanStep, scan-begins, scan-step, scan-ends}
 use Rattle.reading.proofs.quantifiers.last_quantifier.Statement.{statement}
 use Rattle.reading.proofs.quantifiers.last_quantifier.Tie as tie
 use Rattle.reading.proofs.quantifiers.last_quantifier.Reads as reads
@@ -15,18 +15,18 @@ use Rattle.reading.proofs.numbers.u16_at.Reads as u16-at-reads
 use Rattle.reading.proofs.quantifiers.later.Reads as later-reads
 
 abbrev Inv-loop : tie.InvT-loop
-Inv-loop s found₀ at₀ found at = Walk true (foundOf (lastIn (treeOf s))) s at found
+Inv-loop s found₀ at₀ found at = Scanned true (foundOf (lastIn (treeOf s))) s at found
 
 abbrev μ-loop : tie.MeasureT-loop
 μ-loop s found₀ at₀ found at = length s - at
 
 -- the record at which a turn begins
 step : (c : lts.In-loop (u16-at-reads.Asked, u16-at-reads.Learnt, later-reads.Asked, later-reads.Learnt) reads.Pre reads.Post Inv-loop μ-loop)
-    → let s = c .before .before .before .args .s .now in Step true (foundOf (lastIn (treeOf s))) s (c .before .loop .at) (c .before .loop .found)
-step c = walk-step (c .before .loop .inv) (c .loop-test .taken)
+    → let s = c .before .before .before .args .s .now in ScanStep true (foundOf (lastIn (treeOf s))) s (c .before .loop .at) (c .before .loop .found)
+step c = scan-step (c .before .loop .inv) (c .loop-test .taken)
 
 loop-holds : tie.Need-loop-holds Inv-loop μ-loop
-loop-holds c = walk-begins true (c .before .args .s .now) (c .before .pre)
+loop-holds c = scan-begins true (c .before .args .s .now) (c .before .pre)
 
 add-u16-at : tie.Need-add-u16-at Inv-loop μ-loop
 add-u16-at c = omega (arith, step c .room, c .before .before .before .good .0 .0)
@@ -53,7 +53,7 @@ loop-again : tie.Need-loop-again Inv-loop μ-loop
 loop-again c = let t = c .before .before .before in rw (c .before .later .ensures, c .before .before .u16-at .ensures, c .u16-at2 .ensures) (step t .next)
 
 returns : tie.Need-returns Inv-loop μ-loop
-returns c = walk-ends (c .before .loop .inv) (c .loop-test .left)
+returns c = scan-ends (c .before .loop .inv) (c .loop-test .left)
 
 pub last-quantifier-spec : {M : Type 1} → statement M
 last-quantifier-spec =

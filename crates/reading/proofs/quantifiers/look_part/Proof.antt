@@ -3,11 +3,11 @@ use borrow.Author.Needs.{needs}
 use mathlib.Core.Path.{_≡_, sym, _∙_, ap}
 use mathlib.Core.List.{List}
 use Prim.Native.Nat.{ℕ, _+_}
-use native.Mathlib.Nat.{le-refl}
 use native.Mathlib.Omega.{arith}
 use lib.ListN.{length}
 use mathlib.Core.Bool.{true}
 use Rattle.reading.specs.Limits.{resultBytes, resultLevels}
+use Rattle.reading.specs.Bytes.{Bytes}
 use Rattle.reading.specs.Formula.{Formula, encode}
 use Rattle.reading.specs.Reading.{treeOf, Exactly}
 use Rattle.reading.specs.Answers.{reading}
@@ -31,10 +31,11 @@ calls = (read-whole-reads.Asked, read-whole-reads.Learnt, last-quantifier-reads.
 done : (c : lts.After-enum-told2 calls reads.Pre reads.Post) → reading resultBytes resultLevels (c .before .before .before .before .args .s .now) ≡ Done (c .enum-told2 .given .0 .0)
 done c = sym (c .before .before .read-whole .ensures) ∙ c .enum-told2 .given .1
 
+bytes : (c : lts.After-enum-told2 calls reads.Pre reads.Post) → Bytes (c .before .before .before .before .args .s .now)
+bytes c = λ i. c .before .before .before .shared-slice-known .given i .fits
+
 whole : (c : lts.After-enum-told2 calls reads.Pre reads.Post) → let s = c .before .before .before .before .args .s .now in Exactly s (treeOf s)
-whole c =
-    let a = c .before .before .before in
-    accepted-exactly resultBytes resultLevels (a .before .args .s .now) (le-refl resultLevels) (λ i. a .shared-slice-known .given i .fits) (done c)
+whole c = accepted-exactly resultBytes resultLevels (c .before .before .before .before .args .s .now) (omega arith) (bytes c) (done c)
 
 -- where it has a quantifier
 found : (c : lts.After-o calls reads.Pre reads.Post) → Body true (c .before .before .before .before .before .before .before .args .s .now) (c .o .given .0 .0)
@@ -84,7 +85,8 @@ returns c = sym (look-refused (c .before .before .before .before .args .s .now) 
 returns-2 : tie.Need-returns-2
 returns-2 c =
     let q = c .before .before in
-    sym (look-accepted (whole (q .before)) (done (q .before)) ∙ look-nothing (lastIn (treeOf (q .before .before .before .before .before .args .s .now))) (sym (q .last-quantifier .ensures) ∙ c .enum-told3 .given .1))
+    let s = q .before .before .before .before .before .args .s .now in
+    sym (look-accepted s (bytes (q .before)) (done (q .before)) ∙ look-nothing (lastIn (treeOf s)) (sym (q .last-quantifier .ensures) ∙ c .enum-told3 .given .1))
 
 returns-3 : tie.Need-returns-3
 returns-3 c =
@@ -93,7 +95,7 @@ returns-3 c =
     let s = t .before .before .before .before .args .s .now in
     let at = o .o .given .0 .0 + 6 in
     let n : c .formula-length .result ≡ length (encode (found o .body)) = c .formula-length .ensures ∙ ap (λ (u : List ℕ). length (encode (treeOf u))) (part-drop at s) ∙ ap (λ (f : Formula). length (encode f)) (tree-is (found o .begins)) in
-    ap (λ (l : ℕ). record { at = at; length = l }) n ∙ sym (look-body (done t) (whole t) (found o))
+    ap (λ (l : ℕ). record { at = at; length = l }) n ∙ sym (look-body (done t) (bytes t) (found o))
 
 pub look-part-spec : {M : Type 1} → statement M
 look-part-spec =

@@ -14,6 +14,9 @@ returns c = simp (lt-ltb _ _ (c .if1 .taken))
 u16-at-requires : tie.Need-u16-at-requires
 u16-at-requires c κs = search needs
 
+cast-l : tie.Need-cast-l
+cast-l c = search needs
+
 u16-at-requires-2 : tie.Need-u16-at-requires-2
 u16-at-requires-2 c κs = search needs
 
@@ -82,6 +85,7 @@ record-at-spec =
     (tie.spec
     returns
     u16-at-requires
+    cast-l
     u16-at-requires-2
     not-head-requires
     window-head-requires

@@ -1,0 +1,3 @@
+-- The elimination of a sheet.
+pub mod Delivery
+pub mod OneReply

@@ -1,0 +1,29 @@
+-- 01, 'What the proofs have to settle': any two replies that the promise of a public call allows are equal, and so are all bytes of both buffers.
+-- Assumes nothing.
+use mathlib.Core.Path.{_≡_, sym, _∙_, ap, ap₂}
+use mathlib.Core.List.{List}
+use Prim.Native.Nat.{ℕ}
+use lib.IntN.{ℤ}
+use Rattle.rules.specs.Eliminate.{eliminate}
+use Rattle.elimination.specs.Eliminating.{Gives}
+use Rattle.rules.specs.Test.{Trial, tested}
+use Rattle.elimination.specs.Testing.{trialOf}
+use Rattle.elimination.specs.declared.Reply.{Reply}
+use Rattle.elimination.specs.declared.Tested.{Tested}
+
+abbrev reply : ℕ → ℕ → ℕ → ℕ → Reply
+reply n v p l = record { number = n; verdict = v; place = p; length = l }
+
+pub one-elimination : (sheet result work : List ℕ) (r s : Reply) (a b v w : List ℕ) → Gives (eliminate sheet result work) r a v → Gives (eliminate sheet result work) s b w
+    → (r ≡ s) × (a ≡ b) × (v ≡ w)
+one-elimination sheet result work r s a b v w g h = (
+  ap₂ (λ (n k : ℕ). reply n k (r .place) (r .length)) (g .0 ∙ sym (h .0)) (g .1 ∙ sym (h .1)) ∙ ap₂ (reply (s .number) (s .verdict)) (g .2 ∙ sym (h .2)) (g .3 ∙ sym (h .3)),
+  g .4 ∙ sym (h .4),
+  g .5 ∙ sym (h .5),
+)
+
+abbrev testReply : Trial → Tested
+testReply t = record { number = t .number; verdict = t .verdict; place = t .place }
+
+pub one-test : (sheet : List ℕ) (w : List ℤ) (r s : Tested) → trialOf r ≡ tested sheet w → trialOf s ≡ tested sheet w → r ≡ s
+one-test sheet w r s e f = ap testReply (e ∙ sym f)

@@ -1,0 +1,2 @@
+-- The table of boundary terms.
+pub mod TermLaws

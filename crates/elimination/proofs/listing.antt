@@ -1,0 +1,3 @@
+-- A list while it is written.
+pub mod Members
+pub mod Tallying

@@ -1,0 +1,2 @@
+-- The run in a buffer.
+pub mod RunLaws

@@ -1,0 +1,3 @@
+-- One step in a buffer.
+pub mod Replacing
+pub mod WholeStep

@@ -1,0 +1,2 @@
+-- The test at fractions.
+pub mod TestLaws

@@ -1,0 +1,3 @@
+-- The copies at all points.
+pub mod Joining
+pub mod PointLaws

@@ -1,0 +1,3 @@
+-- Bytes that are written over others.
+pub mod Lay
+pub mod Moving

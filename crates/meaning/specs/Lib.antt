@@ -1,0 +1,2 @@
+-- What a sheet means.
+pub mod Meaning

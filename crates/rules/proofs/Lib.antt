@@ -1,0 +1,7 @@
+-- The starred sheets; what the construction keeps of limits and places; what each answer says.
+pub mod Starred
+pub mod Limits
+pub mod PushedTerms
+pub mod Stepwise
+pub mod Answers
+pub mod StarredEnds

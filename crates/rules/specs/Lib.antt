@@ -1,0 +1,9 @@
+-- 01's construction, in its order.
+pub mod Variables
+pub mod Pushing
+pub mod Points
+pub mod Lists
+pub mod Copies
+pub mod Steps
+pub mod Eliminate
+pub mod Test
