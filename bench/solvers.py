@@ -1,8 +1,9 @@
 #!/usr/bin/env python3
-"""Times quantifier elimination by z3 (tactic qe) and cvc5 (get-qe), each in one process over the sample sheets that have a quantifier.
+"""Times quantifier elimination by z3 (tactic qe) and cvc5 (get-qe) beside the archive, over the same sheets, in one run.
 
-Run: bench/solvers.py, after bench/run has built the archive's table. A solver that is not installed is passed over.
-The archive's time for the same sheets is taken by the program target/bench/bench; here the sheets go to the solvers as SMT-LIB.
+Run: solvers.py RACE LIBRARY.so SHEET.., as bench/run does. Each solver gets all sheets in one process, and what it takes to start is subtracted; a sheet
+on which it takes more than ten seconds is passed over, for the archive too. A solver that is not installed is passed over. The archive is timed by
+the program RACE before and after each solver.
 """
 
 import pathlib
@@ -12,9 +13,7 @@ import subprocess
 import sys
 import time
 
-ROOT = pathlib.Path(__file__).resolve().parent.parent
-NAMES = ["between", "y-and-z", "window", "at-most-one", "above-five", "half", "every-some", "some-every", "not-three", "bound-again", "large-one"]
-TIMES = 20
+LIMIT = 10
 
 
 def number(value):
@@ -36,7 +35,9 @@ def term(sheet, at=0):
         for _ in range(count):
             one, end = term(sheet, end)
             inner.append(one)
-        return ("true" if kind == 5 else "false") if not inner else f"({'and' if kind == 5 else 'or'} {' '.join(inner)})", end
+        if not inner:
+            return ("true" if kind == 5 else "false"), end
+        return f"({'and' if kind == 5 else 'or'} {' '.join(inner)})" if len(inner) > 1 else inner[0], end
     if kind in (7, 8):
         v, = struct.unpack_from("<H", sheet, at + 4)
         inner, end = term(sheet, at + 6)
@@ -45,30 +46,50 @@ def term(sheet, at=0):
     return f"(and (<= {number(low)} x{v}) (<= x{v} {number(high)}))", at + length
 
 
-def timed(command, text):
+DECLARED = "".join(f"(declare-const x{v} Real)\n" for v in range(8))
+SOLVERS = {
+    "z3": (["z3", "-in"], "", lambda t: f"(push)\n(assert {t})\n(apply (then simplify qe))\n(pop)\n"),
+    "cvc5": (["cvc5", "--lang=smt2", "--incremental"], "(set-logic LRA)\n", lambda t: f"(get-qe {t})\n"),
+}
+
+
+def timed(command, text, limit):
+    """Seconds, or None where the solver fails or takes longer than the limit."""
     start = time.perf_counter()
-    done = subprocess.run(command, input=text, capture_output=True, text=True)
-    return time.perf_counter() - start, done
+    try:
+        done = subprocess.run(command, input=text, capture_output=True, text=True, timeout=limit)
+    except subprocess.TimeoutExpired:
+        return None
+    return time.perf_counter() - start if done.returncode == 0 and "error" not in done.stdout else None
+
+
+def archive(race, library, sheets):
+    """Microseconds a sheet."""
+    said = subprocess.run([race, "-s", f"now={library}", "--", *sheets], capture_output=True, text=True, check=True).stdout
+    return float(said.split(":")[1].split("µs")[0])
 
 
 def main():
-    terms = [term((ROOT / "samples" / f"{name}.sheet").read_bytes())[0] for name in NAMES]
-    declared = "".join(f"(declare-const x{v} Real)\n" for v in range(8))
-    solvers = {
-        "z3": (["z3", "-in"], lambda t: f"(push)\n(assert {t})\n(apply (then simplify qe))\n(pop)\n"),
-        "cvc5": (["cvc5", "--lang=smt2", "--incremental"], lambda t: f"(get-qe {t})\n"),
-    }
-    for name, (command, question) in solvers.items():
+    race, library, *sheets = sys.argv[1:]
+    terms = {name: term(pathlib.Path(name).read_bytes())[0] for name in sheets}
+    for name, (command, head, question) in SOLVERS.items():
         if not shutil.which(command[0]):
             print(f"{name}: not installed")
             continue
-        head = ("(set-logic LRA)\n" if name == "cvc5" else "") + declared
-        empty, _ = timed(command, head)
-        whole, done = timed(command, head + "".join(question(t) for t in terms) * TIMES)
-        if done.returncode != 0:
-            print(f"{name}: {done.stdout[:200]} {done.stderr[:200]}")
+        head += DECLARED
+        start = min(timed(command, head, LIMIT) for _ in range(5))
+        done = [sheet for sheet in sheets if timed(command, head + question(terms[sheet]), LIMIT) is not None]
+        if not done:
+            print(f"{name}: no sheet was answered")
             continue
-        print(f"{name}: {(whole - empty) / TIMES / len(terms) * 1e6:.0f} µs a sheet, over {len(terms)} small sheets, {TIMES} times, in one process")
+        before = archive(race, library, done)
+        whole = timed(command, head + "".join(question(terms[sheet]) for sheet in done), LIMIT * len(done))
+        after = archive(race, library, done)
+        if whole is None:
+            print(f"{name}: answers the sheets one by one but not in one process")
+            continue
+        took, mine = (whole - start) / len(done) * 1e6, (before + after) / 2
+        print(f"{name}: {took:.0f} µs a sheet over {len(done)} of {len(sheets)}, in one process; the archive {mine:.2f} µs ({before:.2f} before, {after:.2f} after): {took / mine:.0f} times")
     return 0
 
 

@@ -4,7 +4,7 @@
  * The caller's duties, which no proof can see:
  *   - each pointer is valid for its length (it may be null, or anything, where the length is 0);
  *   - the buffers of one call do not overlap, and nothing else reads or writes them while the call runs;
- *   - the stack has room: see VB_STACK.
+ *   - the stack has room: see VB_STACK and VB_SMALL_STACK.
  * A call keeps nothing: no state, no allocation, no input or output. Calls on different buffers may run at the same time.
  */
 #ifndef VISEBOBBIN_H
@@ -25,12 +25,14 @@ extern "C" {
 #define VB_MOST 1073741823      /* M: coefficients, constants, lo and hi lie in -M..M */
 #define VB_TERMS 64u            /* boundary terms in one step */
 #define VB_VALUE 1000000        /* values of a test lie in -VB_VALUE..VB_VALUE, its denominator in 1..VB_VALUE */
-#define VB_STACK 716800u        /* bytes of stack that a call of vb_eliminate may use; the others use less than 65,536 */
+#define VB_ROOM 524288u         /* the least length of the room of vb_eliminate_in */
+#define VB_STACK 716800u        /* bytes of stack that a call of vb_eliminate may use */
+#define VB_SMALL_STACK 32768u   /* bytes of stack that any other call may use */
 
 /* Answers: the number of a reply. */
 enum {
     VB_DONE = 0,
-    VB_SHORT_BUFFER = 1,     /* result or work buffer under 65,536 bytes; place 0 */
+    VB_SHORT_BUFFER = 1,     /* result or work buffer under 65,536 bytes, or the room under VB_ROOM; place 0 */
     VB_LONG_SHEET = 2,       /* sheet longer than its limit; place 0 */
     VB_CUT = 3,              /* bytes run out; place: where that record starts or should start */
     VB_KIND = 4,             /* kind not 1..9; place: record */
@@ -58,6 +60,12 @@ typedef struct { uint64_t at, length; } vb_part;
  * are ever written. After 0 the result buffer holds the result and then zeros, the work buffer zeros; after 1 to 9 neither has changed; after
  * 10 to 12 both hold zeros. */
 vb_reply vb_eliminate(const uint8_t *sheet, size_t sheet_length, uint8_t *result, size_t result_length, uint8_t *work, size_t work_length);
+
+/* The same, with the caller's room for what is copied, on little stack: for a thread that has not VB_STACK. The reply and both buffers are those of
+ * vb_eliminate, except that a room under VB_ROOM bytes is answered by 1 too. Of the room only the first VB_ROOM bytes are ever written, and what they hold
+ * afterwards means nothing; what they held before does not matter. */
+vb_reply vb_eliminate_in(const uint8_t *sheet, size_t sheet_length, uint8_t *result, size_t result_length, uint8_t *work, size_t work_length,
+                         uint8_t *room, size_t room_length);
 
 /* Whether a quantifier-free sheet holds at p0/q .. p7/q: verdict 1 or 0, or 3 when refused. Writes nothing. */
 vb_tested vb_test(const uint8_t *sheet, size_t sheet_length, int64_t p0, int64_t p1, int64_t p2, int64_t p3, int64_t p4, int64_t p5, int64_t p6,

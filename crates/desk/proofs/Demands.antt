@@ -1,14 +1,17 @@
 -- The three demands, from the bytes that C hands over to the reply and the bytes that it finds. Each is said of any reply that the promise of the call
--- (`Eliminates`, `TestsAt`, `ReadsAs`, `LooksAt` of specs/Promises, which the exported functions are proved to keep) allows. That every call ends, for
--- all bytes and lengths, is part of each proof: no call has a `requires`. `Bytes sheet` says that each element of the sheet is below 256, so it
--- restricts nothing: C can hand over nothing else. Assumes nothing.
+-- (`Eliminates`, `EliminatesIn`, `TestsAt`, `ReadsAs`, `LooksAt` of specs/Promises, which the exported functions are proved to keep) allows. That every
+-- call ends, for all bytes and lengths, is part of each proof: no call has a `requires`. `Bytes sheet` says that each element of the sheet is below 256,
+-- so it restricts nothing: C can hand over nothing else. Assumes nothing.
 use mathlib.Core.Path.{_≡_, sym, _∙_, ap, subst}
 use mathlib.Core.Logic.{_⊎_, _↔_}
 use mathlib.Core.List.{List, _++_}
-use Prim.Native.Nat.{ℕ, _+_, _-_, _≤_}
+use mathlib.Core.Bool.{Bool, true, false, cond}
+use Prim.Native.Nat.{ℕ, _+_, _-_, _≤_, _<_}
+use lib.Dec.{ltb}
 use lib.ListN.{length, take, drop}
 use lib.IntN.{ℤ, pos}
 use lib.Signed.{_<ℤ_}
+use borrow.Author.Tests.{lt-ltb, le-ltb}
 use Rattle.reading.specs.Limits.{sheetLevels, resultBytes, resultLevels}
 use Rattle.reading.specs.Bytes.{Bytes}
 use Rattle.reading.specs.Formula.{Formula, encode, Fits, Free}
@@ -20,7 +23,8 @@ use Rattle.reading.proofs.Refusals as Refusals
 use Rattle.reading.proofs.Whole as Whole
 use Rattle.reading.proofs.Looking as Looking
 use Rattle.exact.specs.Numbers.{at}
-use Rattle.rules.specs.Eliminate.{Result, cleared, zeros, resultOf}
+use Rattle.rules.specs.Eliminate.{Result, cleared, zeros, resultOf, eliminate, eliminateIn, roomBytes}
+use Rattle.rules.specs.Eliminate as Eliminate
 use Rattle.rules.specs.Test.{trueAt, Trial}
 use Rattle.meaning.specs.Meaning.{Values, fractions, Equal, sumOf, Means}
 use Rattle.rules.specs.Variables.{Closed}
@@ -29,7 +33,7 @@ use Rattle.meaning.proofs.Construction as Meanings
 use Rattle.meaning.proofs.Closed as Closing
 use Rattle.meaning.proofs.Values as Valuing
 use Rattle.meaning.proofs.Truth as Truth
-use Rattle.desk.specs.Promises.{Eliminates, TestsAt, ReadsAs, LooksAt}
+use Rattle.desk.specs.Promises.{gave, Eliminates, EliminatesIn, TestsAt, ReadsAs, LooksAt}
 use Rattle.desk.specs.declared.Reply.{Reply}
 use Rattle.desk.specs.declared.Tested.{Tested}
 use Rattle.desk.specs.declared.Place.{Place}
@@ -108,10 +112,57 @@ module _ (sheet : List ℕ) (ok : Bytes sheet) where
   pub look-answers : (p : Part) → LooksAt sheet p → LookAnswers sheet p
   look-answers p e = subst (λ (o : Reading.Part). LookAnswers sheet (partReply o)) (sym e) (record { within = Looking.look-within sheet ok })
 
+-- what the call in the caller's room gives, by whether the room is too short
+room-is : (n : ℕ) (sheet out₀ work₀ : List ℕ) (b : Bool) → ltb n roomBytes ≡ b → eliminateIn n sheet out₀ work₀ ≡ cond b (Eliminate.refused 1 0 out₀ work₀) (eliminate sheet out₀ work₀)
+unfolding eliminateIn
+room-is n sheet out₀ work₀ b e = ap (λ (c : Bool). cond c (Eliminate.refused 1 0 out₀ work₀) (eliminate sheet out₀ work₀)) e
+
+-- vb_eliminate_in: in a room of at least 524,288 bytes its promise is that of vb_eliminate, so whatever the room holds all that is said of that call, here
+-- and below, is said of this one
+pub in-room : (sheet out₀ work₀ room₀ out work room : List ℕ) (r : Reply) → roomBytes ≤ length room₀ → EliminatesIn sheet out₀ work₀ room₀ r out work room → Eliminates sheet out₀ work₀ r out work
+in-room sheet out₀ work₀ room₀ out work room r h e = e .0 ∙ room-is (length room₀) sheet out₀ work₀ false (le-ltb (length room₀) roomBytes h)
+
+-- a shorter one is a short buffer: 1, and neither buffer changes
+pub record ShortRoom (out₀ work₀ : List ℕ) (r : Reply) (out work : List ℕ) : Type 0 where
+  pub number : r .number ≡ 1
+  pub verdict : r .verdict ≡ 3
+  pub place : r .place ≡ 0
+  pub length : r .length ≡ 0
+  pub buffers : (out ≡ out₀) × (work ≡ work₀)
+
+pub short-room : (sheet out₀ work₀ room₀ out work room : List ℕ) (r : Reply) → length room₀ < roomBytes → EliminatesIn sheet out₀ work₀ room₀ r out work room → ShortRoom out₀ work₀ r out work
+short-room sheet out₀ work₀ room₀ out work room r h e =
+    let k = e .0 ∙ room-is (length room₀) sheet out₀ work₀ true (lt-ltb (length room₀) roomBytes h) in
+    record {
+      number = ap (λ (o : Result). o .number) k;
+      verdict = ap (λ (o : Result). o .verdict) k;
+      place = ap (λ (o : Result). o .place) k;
+      length = ap (λ (o : Result). o .length) k;
+      buffers = (ap (λ (o : Result). o .result) k, ap (λ (o : Result). o .work) k);
+    }
+
+-- past its first 524,288 bytes no byte of the room ever changes
+pub room-past : (sheet out₀ work₀ room₀ out work room : List ℕ) (r : Reply) → EliminatesIn sheet out₀ work₀ room₀ r out work room → drop roomBytes room ≡ drop roomBytes room₀
+room-past sheet out₀ work₀ room₀ out work room r e = e .1
+
 -- ==== Demand 2: each promise is an equation with 01's definition, so any two replies that it allows are equal, and so are the buffers
 
+one-result : (o : Result) (r s : Reply) (a b c d : List ℕ) → gave r a b ≡ o → gave s c d ≡ o → (r ≡ s) × (a ≡ c) × (b ≡ d)
+one-result o r s a b c d g h = let e = g ∙ sym h in (ap reply e, ap (λ (o : Result). o .result) e, ap (λ (o : Result). o .work) e)
+
 pub one-elimination : (sheet out₀ work₀ : List ℕ) (r s : Reply) (a b c d : List ℕ) → Eliminates sheet out₀ work₀ r a b → Eliminates sheet out₀ work₀ s c d → (r ≡ s) × (a ≡ c) × (b ≡ d)
-one-elimination sheet out₀ work₀ r s a b c d g h = let e = g ∙ sym h in (ap reply e, ap (λ (o : Result). o .result) e, ap (λ (o : Result). o .work) e)
+one-elimination sheet out₀ work₀ = one-result (eliminate sheet out₀ work₀)
+
+-- in the caller's room too, whatever it holds: two rooms of one length
+pub one-elimination-in : (sheet out₀ work₀ room₀ room₁ : List ℕ) (r s : Reply) (a b c d x y : List ℕ) → length room₁ ≡ length room₀ → EliminatesIn sheet out₀ work₀ room₀ r a b x → EliminatesIn sheet out₀ work₀ room₁ s c d y
+    → (r ≡ s) × (a ≡ c) × (b ≡ d)
+one-elimination-in sheet out₀ work₀ room₀ room₁ r s a b c d x y l g h =
+    one-result (eliminateIn (length room₀) sheet out₀ work₀) r s a b c d (g .0) (h .0 ∙ ap (λ (n : ℕ). eliminateIn n sheet out₀ work₀) l)
+
+-- and with or without it, where it is long enough
+pub same-elimination : (sheet out₀ work₀ room₀ : List ℕ) (r s : Reply) (a b c d room : List ℕ) → roomBytes ≤ length room₀ → Eliminates sheet out₀ work₀ r a b → EliminatesIn sheet out₀ work₀ room₀ s c d room
+    → (r ≡ s) × (a ≡ c) × (b ≡ d)
+same-elimination sheet out₀ work₀ room₀ r s a b c d room l g h = one-elimination sheet out₀ work₀ r s a b c d g (in-room sheet out₀ work₀ room₀ c d room s l h)
 
 pub one-test : (sheet : List ℕ) (w : List ℤ) (s t : Tested) → TestsAt sheet w s → TestsAt sheet w t → s ≡ t
 one-test sheet w s t g h = ap testReply (g ∙ sym h)

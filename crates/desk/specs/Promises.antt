@@ -4,12 +4,13 @@ use mathlib.Core.Path.{_≡_}
 use mathlib.Core.List.{List}
 use Prim.Native.Nat.{ℕ}
 use lib.IntN.{ℤ}
+use lib.ListN.{length, drop}
 use Rattle.reading.specs.Limits.{resultBytes, resultLevels}
 use Rattle.reading.specs.Answers.{reading, answerOf}
 use Rattle.reading.specs.Quantifiers.{lookPart}
 use Rattle.reading.specs.declared.Answer.{Answer}
 use Rattle.reading.specs.declared.Part as Reading
-use Rattle.rules.specs.Eliminate.{Result, eliminate}
+use Rattle.rules.specs.Eliminate.{Result, eliminate, eliminateIn, roomBytes}
 use Rattle.rules.specs.Test.{tested, Trial}
 use Rattle.desk.specs.declared.Reply.{Reply}
 use Rattle.desk.specs.declared.Tested.{Tested}
@@ -23,6 +24,11 @@ gave r out work = record { number = r .number; verdict = r .verdict; place = r .
 
 abbrev pub Eliminates : List ℕ → List ℕ → List ℕ → Reply → List ℕ → List ℕ → Type 0
 Eliminates sheet out₀ work₀ r out work = gave r out work ≡ eliminate sheet out₀ work₀
+
+-- ---- vb_eliminate_in: the same in the caller's room, of which at most the first 524,288 bytes are written; what is in those afterwards is left open
+
+abbrev pub EliminatesIn : List ℕ → List ℕ → List ℕ → List ℕ → Reply → List ℕ → List ℕ → List ℕ → Type 0
+EliminatesIn sheet out₀ work₀ room₀ r out work room = (gave r out work ≡ eliminateIn (length room₀) sheet out₀ work₀) × (drop roomBytes room ≡ drop roomBytes room₀)
 
 -- ---- vb_test, at the eight values and the denominator w
 

@@ -1,6 +1,6 @@
 // The calls that C makes: each a line over the proved call below, with the same promise and no `requires`.
 ghost use mathlib.Core.List.{[], _∷_};
-ghost use Rattle.desk.specs.Promises.{Eliminates, TestsAt, ReadsAs, LooksAt};
+ghost use Rattle.desk.specs.Promises.{Eliminates, EliminatesIn, TestsAt, ReadsAs, LooksAt};
 
 #[repr(C)]
 pub struct Reply {
@@ -40,6 +40,25 @@ pub extern "C" fn vb_eliminate(sheet: &[u8], result: &mut [u8], work: &mut [u8])
         verdict: done.verdict as u64,
         place: done.place as u64,
         length: done.length as u64,
+    }
+}
+
+// The same in the caller's room, on little stack.
+#[no_mangle]
+pub extern "C" fn vb_eliminate_in(
+    sheet: &[u8],
+    result: &mut [u8],
+    work: &mut [u8],
+    room: &mut [u8],
+) -> Reply
+    ensures { λ r. ⌜ EliminatesIn (now (sheet .entry)) (now (result .entry)) (now (work .entry)) (now (room .entry)) r (now (result .exit)) (now (work .exit)) (now (room .exit)) ⌝ }
+{
+    let kept = elimination::eliminate_in(sheet, result, work, room);
+    Reply {
+        number: kept.number as u64,
+        verdict: kept.verdict as u64,
+        place: kept.place as u64,
+        length: kept.length as u64,
     }
 }
 

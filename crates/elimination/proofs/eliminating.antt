@@ -1,3 +1,4 @@
 -- The elimination of a sheet.
 pub mod Delivery
+pub mod Carrying
 pub mod OneReply

@@ -1,13 +1,17 @@
 -- What the code of the elimination asks for and promises.
-use Prim.Native.Nat.{ℕ, _≤_}
+use Prim.Native.Nat.{ℕ, _≤_, _<_}
 use mathlib.Core.Path.{_≡_}
 use mathlib.Core.List.{List}
-use lib.ListN.{length}
-use Rattle.reading.specs.Limits.{sheetBytes, sheetLevels}
-use Rattle.reading.specs.Formula.{Fits}
+use lib.ListN.{length, drop}
+use Rattle.reading.specs.Limits.{sheetBytes, sheetLevels, resultBytes}
+use Rattle.reading.specs.Formula.{Formula, Fits}
 use Rattle.reading.specs.Reading.{treeOf, Exactly}
-use Rattle.rules.specs.Eliminate.{Result}
+use Rattle.rules.specs.Steps.{eliminated}
+use Rattle.rules.specs.Eliminate.{Result, byRun, roomBytes}
+use Rattle.elimination.specs.Running.{Reached}
 use Rattle.elimination.specs.declared.Reply.{Reply}
+use Rattle.elimination.specs.declared.Carried.{Carried}
+use Rattle.elimination.specs.declared.Carried.the-variants as Carried
 
 -- a sheet that reading accepts
 pub record Accepted (s : List ℕ) : Type 0 where
@@ -19,3 +23,13 @@ pub record Accepted (s : List ℕ) : Type 0 where
 abbrev pub Gives : Result → Reply → List ℕ → List ℕ → Type 0
 Gives e r result work =
     (r .number ≡ e .number) × (r .verdict ≡ e .verdict) × (r .place ≡ e .place) × (r .length ≡ e .length) × (result ≡ e .result) × (work ≡ e .work)
+
+-- room for the copies of a body in a formula no longer than a sheet
+abbrev pub sheetRoom : ℕ
+sheetRoom = 98304
+
+-- an elimination that stands at the formula f, of a sheet of m bytes, with a room of n bytes: it comes to its reply; or for want of room it stops on the way
+abbrev pub Carries : Formula → ℕ → ℕ → List ℕ → List ℕ → List ℕ → List ℕ → Carried → Type 0
+Carries f m n result₀ result work₀ work (Carried.Done r) = Gives (byRun m (eliminated f) result₀ work₀) r result work
+Carries f m n result₀ result work₀ work (Carried.Short k) =
+    Reached f k result × (drop resultBytes result ≡ drop resultBytes result₀) × (drop resultBytes work ≡ drop resultBytes work₀) × (n < roomBytes)

@@ -1,31 +1,35 @@
 -- What the code of the run asks for and promises.
-use Prim.Native.Nat.{ℕ}
+use Prim.Native.Nat.{ℕ, _<_}
 use mathlib.Core.Path.{_≡_}
 use mathlib.Core.Bool.{Bool, false, true}
 use mathlib.Core.List.{List}
 use lib.ListN.{length, take, drop}
-use Rattle.reading.specs.Limits.{resultBytes}
-use Rattle.reading.specs.Formula.{encode}
-use Rattle.rules.specs.Steps.{Run, ran, halted}
-use Rattle.elimination.specs.declared.Stepped.{Stepped}
+use Rattle.reading.specs.Limits.{resultBytes, resultLevels}
+use Rattle.reading.specs.Formula.{Formula, encode}
+use Rattle.rules.specs.Levels.{Wide}
+use Rattle.rules.specs.Steps.{ran, halted, eliminated}
+use Rattle.rules.specs.Eliminate.{roomBytes}
+use Rattle.elimination.specs.Stepping.{held, Stands}
 use Rattle.elimination.specs.declared.Ran.{Ran}
 use Rattle.reading.specs.declared.Found.{Found}
 use Rattle.reading.specs.declared.Found.the-variants.{At, Nothing}
-use Rattle.elimination.specs.declared.Stepped.the-variants as Stepped
 use Rattle.elimination.specs.declared.Ran.the-variants as Ran
 
-abbrev pub ranOf : Run → Ran
-ranOf (ran g) = Ran.Fine (length (encode g))
-ranOf (halted n p) = Ran.Refused n p
+-- the formula in the first n bytes of cur is on the way of f: its run is that of f
+pub record Reached (f : Formula) (n : ℕ) (cur : List ℕ) : Type 0 where
+  pub stands : Stands n cur
+  pub wide : Wide resultLevels (held n cur)
+  pub same : eliminated f ≡ eliminated (held n cur)
 
--- where nothing was refused, the formula stands at the start of the buffer
-abbrev pub RanIn : Run → List ℕ → Type 0
-RanIn (ran g) cur = take (length (encode g)) cur ≡ encode g
-RanIn (halted n p) cur = Unit {0}
+-- a run over f in the buffer cur₀, with a room of n bytes, answered r: where nothing was refused, the formula with no quantifier left stands at the start
+-- of cur; for want of room it stopped at a formula whose run is that of f
+abbrev pub RanTo : Formula → ℕ → List ℕ → Ran → Type 0
+RanTo f n cur (Ran.Fine k) = (g : Formula) × (eliminated f ≡ ran g) × (k ≡ length (encode g)) × (take k cur ≡ encode g)
+RanTo f n cur (Ran.Refused e p) = eliminated f ≡ halted e p
+RanTo f n cur (Ran.Short k) = Reached f k cur × (n < roomBytes)
 
-pub record Runs (o : Run) (cur₀ cur work₀ work : List ℕ) (r : Ran) : Type 0 where
-  pub answer : r ≡ ranOf o
-  pub bytes : RanIn o cur
+pub record Runs (f : Formula) (n : ℕ) (cur₀ cur work₀ work : List ℕ) (r : Ran) : Type 0 where
+  pub answer : RanTo f n cur r
   pub cur-rest : drop resultBytes cur ≡ drop resultBytes cur₀
   pub work-rest : drop resultBytes work ≡ drop resultBytes work₀
 
@@ -38,12 +42,3 @@ isAt Nothing = false
 abbrev pub offsetOf : Found → ℕ
 offsetOf (At o) = o
 offsetOf Nothing = 0
-
--- the number of a step's refusal, or 0, and the length of the formula after it
-abbrev pub numberOf : Stepped → ℕ
-numberOf (Stepped.Fine n) = 0
-numberOf (Stepped.Refused e) = e
-
-abbrev pub lengthOf : Stepped → ℕ
-lengthOf (Stepped.Fine n) = n
-lengthOf (Stepped.Refused e) = 0

@@ -1,11 +1,12 @@
 -- What the code of a step asks for and promises: the formula that stands at the start of a buffer, before and after; the replacement at the start of the
 -- output; and the splice, which puts it in place of the quantifier and moves the bytes after it.
-use Prim.Native.Nat.{ℕ, zero, suc, _≤_, _+_, _-_, _<_}
+use Prim.Native.Nat.{ℕ, zero, suc, _≤_, _+_, _-_, _*_, _<_}
 use mathlib.Core.Path.{_≡_}
 use mathlib.Core.Bool.{Bool, false, true, cond}
 use mathlib.Core.List.{List, _++_}
 use lib.ListN.{length, take, drop}
-use Rattle.reading.specs.Limits.{resultBytes, mostTerms}
+use lib.IntN.{ℤ}
+use Rattle.reading.specs.Limits.{resultBytes}
 use Rattle.reading.specs.Formula.{Formula, encode, Formulas, list, none}
 use Rattle.reading.specs.Reading.{treeOf, Exactly}
 use Rattle.reading.specs.Quantifiers.{Quantifier, nothing, at, lastIn}
@@ -14,15 +15,16 @@ use Rattle.rules.specs.Steps.{step, refusal, replacement, numbersFit}
 use Rattle.elimination.specs.declared.Stepped.{Stepped}
 use lib.Dec.{ltb}
 use Rattle.rules.specs.Pushing.{push}
-use Rattle.elimination.specs.declared.Copied.the-variants.{Big}
-use Rattle.elimination.specs.declared.Gathered.the-variants.{Full}
+use Rattle.rules.specs.Eliminate.{roomBytes}
+use Rattle.elimination.specs.declared.Body.{Body}
 use Rattle.elimination.specs.declared.Copies.{Copies}
 use Rattle.elimination.specs.declared.Made.{Made}
 use Rattle.elimination.specs.declared.Stepped.the-variants as Stepped
 use Rattle.elimination.specs.declared.Made.the-variants as Made
-use Rattle.elimination.specs.Listing.{Come, closeOf, copiedNo, Space, truth, kept, big, going}
-use Rattle.elimination.specs.Gathering.{gatheredNo}
-use Rattle.elimination.specs.Trying.{Lists}
+use Rattle.elimination.specs.Listing.{Come, closeOf, Space, truth, kept, big, going}
+use Rattle.elimination.specs.Gathering.{rowsOf, Table}
+use Rattle.elimination.specs.Marking.{Marked}
+use Rattle.elimination.specs.Trying.{Lists, Sure}
 
 -- the formula in the first n bytes of a buffer
 abbrev pub held : ℕ → List ℕ → Formula
@@ -45,12 +47,39 @@ abbrev pub steppedOf : ℕ → ℕ → Stepped
 steppedOf zero n = Stepped.Fine n
 steppedOf (suc e) n = Stepped.Refused (suc e)
 
--- a step over f in the buffer cur₀ answered r and left cur there; past 65,536 bytes cur and work are as they were
-pub record Steps (f : Formula) (cur₀ cur work₀ work : List ℕ) (r : Stepped) : Type 0 where
-  pub answer : r ≡ steppedOf (refusalAt (lastIn f) (step f)) (length (encode (step f)))
-  pub bytes : refusalAt (lastIn f) (step f) ≡ 0 → take (length (encode (step f))) cur ≡ encode (step f)
+-- whether a step did not come to its end, for want of room
+abbrev pub isShort : Stepped → Bool
+isShort (Stepped.Fine n) = false
+isShort (Stepped.Refused e) = false
+isShort Stepped.Short = true
+
+-- a step over f in the buffer cur₀ answered r and left cur there; past 65,536 bytes cur and work are as they were. For want of room it leaves cur as it is
+pub record Tried (f : Formula) (cur₀ cur work₀ work : List ℕ) (r : Stepped) : Type 0 where
+  pub answer : isShort r ≡ false → r ≡ steppedOf (refusalAt (lastIn f) (step f)) (length (encode (step f)))
+  pub bytes : isShort r ≡ false → refusalAt (lastIn f) (step f) ≡ 0 → take (length (encode (step f))) cur ≡ encode (step f)
+  pub again : isShort r ≡ true → cur ≡ cur₀
   pub cur-rest : drop resultBytes cur ≡ drop resultBytes cur₀
   pub work-rest : drop resultBytes work ≡ drop resultBytes work₀
+
+-- and a room of n bytes is enough where n is 524,288
+pub record Steps (f : Formula) (n : ℕ) (cur₀ cur work₀ work : List ℕ) (r : Stepped) : Type 0 where
+  pub tried : Tried f cur₀ cur work₀ work r
+  pub roomy : isShort r ≡ true → n < roomBytes
+
+-- what is told of the body f for the variable x, of b bytes, and its marks
+pub record Told (f : Formula) (x b : ℕ) (ms : List ℕ) (y : Body) : Type 0 where
+  pub variable : y .x ≡ x
+  pub bytes : y .bytes ≡ b
+  pub marks : y .way .marked ≡ true → (b < 40 * length ms) × Marked x ms b f
+  pub sure : Sure y (points x (terms x f)) (push false f)
+
+-- the formula in the first len bytes of cur has its last quantifier at o; y tells of its body, and the table ts holds its n boundary terms
+pub record Poised (len o : ℕ) (every : Bool) (y : Body) (n : ℕ) (cur : List ℕ) (ts : List ℤ) (ms : List ℕ) : Type 0 where
+  pub body : Formula
+  pub last : lastIn (held len cur) ≡ at o every (y .x) body
+  pub told : Told body (y .x) (length (encode body)) ms y
+  pub table : Table ts n
+  pub rows : rowsOf n ts ≡ terms (y .x) body
 
 -- ---- the replacement
 
@@ -65,24 +94,20 @@ pub record Put (g : Formula) (o : List ℕ) (r : ℕ) : Type 0 where
   pub short : length (encode g) ≤ resultBytes → (r ≡ length (encode g)) × (take r o ≡ encode g)
   pub long : resultBytes < length (encode g) → resultBytes < r
 
--- a list of copies, unless it is over, stands in an output of n bytes, which has room for a record
+-- a list of copies, unless it is decided or over, stands in an output of n bytes, which has room for a record
 pub record Closable (c : Copies) (n : ℕ) : Type 0 where
-  pub space : c .over ≡ false → Space (c .list) n
+  pub space : c .list .fixed ≡ false → c .over ≡ false → Space (c .list) n
   pub record-room : 6 ≤ n
 
 -- whatever members the list of copies has, the list rule makes the replacement of them
 abbrev pub Replaces : Copies → List ℕ → List ℕ → ℕ → Type 0
 Replaces c o o′ r = (all x : Bool) (gs : Formulas) (o₀ : List ℕ) → Lists all (going x gs) c o₀ o → Put (formulaFor (closeOf all x gs)) o′ r
 
--- 10, 11 or none (0): what is judged before the bytes of the replacement are counted
-unfoldable pub early : ℕ → Formula → ℕ
-unfolding terms points numbersFit push
-early x f = cond (ltb mostTerms (length (terms x f))) (gatheredNo Full) (cond (numbersFit (points x (terms x f)) (push false f)) 0 (copiedNo Big))
-
--- what the replacement of the quantifier of x over f came to, where o is the output
-abbrev pub MadeOf : Bool → ℕ → Formula → List ℕ → Made → Type 0
-MadeOf all x f o (Made.Fine used r) = (early x f ≡ 0) × (used ≡ length (encode f)) × Put (replacement all x f) o r
-MadeOf all x f o (Made.Refused e) = (early x f ≡ e) × (1 ≤ e)
+-- what the replacement of the quantifier over f came to, where o is the output, of n bytes
+abbrev pub MadeOf : Bool → Body → Formula → ℕ → List ℕ → Made → Type 0
+MadeOf all y f n o (Made.Fine r) = (numbersFit (points (y .x) (terms (y .x) f)) (push false f) ≡ true) × Put (replacement all (y .x) f) o r
+MadeOf all y f n o Made.Big = numbersFit (points (y .x) (terms (y .x) f)) (push false f) ≡ false
+MadeOf all y f n o Made.Short = n < resultBytes + 6 + 7 * y .bytes
 
 -- ---- the splice: r bytes of out in place of those from o to e, of a formula of len bytes
 
@@ -104,3 +129,9 @@ pub record Splices (len o e r : ℕ) (cur₀ cur work₀ work out : List ℕ) (s
   pub bytes : splicedEnd len o e r ≤ resultBytes → take (splicedEnd len o e r) cur ≡ take o cur₀ ++ (take r out ++ drop e (take len cur₀))
   pub cur-rest : drop resultBytes cur ≡ drop resultBytes cur₀
   pub work-rest : drop resultBytes work ≡ drop resultBytes work₀
+
+-- the same where the bytes after the quantifier stand at the start of work, and the r bytes behind them: what comes after e are the first `rest` bytes of work
+pub record Joins (rest o r : ℕ) (cur₀ cur work : List ℕ) (s : Stepped) : Type 0 where
+  pub answer : s ≡ cond (ltb resultBytes (o + r + rest)) (Stepped.Refused 12) (Stepped.Fine (o + r + rest))
+  pub bytes : o + r + rest ≤ resultBytes → take (o + r + rest) cur ≡ take o cur₀ ++ (take r (drop rest work) ++ take rest work)
+  pub cur-rest : drop resultBytes cur ≡ drop resultBytes cur₀

@@ -1,4 +1,6 @@
 // The elimination of a sheet: what reading refuses, the run, the finishing pass, and what the buffers hold afterwards.
+use crate::Carried;
+use crate::Finished;
 use crate::Ran;
 use crate::Reply;
 use crate::finishing;
@@ -7,17 +9,27 @@ use crate::writing;
 use reading::Limit;
 use reading::RESULT_BYTES;
 use reading::read_whole;
+ghost use mathlib.Core.Bool.{cond};
 ghost use mathlib.Core.Path.{_≡_};
 ghost use Prim.Native.Nat.{_≤_};
-ghost use lib.ListN.{length, take};
-ghost use Rattle.reading.specs.Limits.{resultBytes};
+ghost use lib.Dec.{ltb};
+ghost use lib.ListN.{length, take, drop};
+ghost use Rattle.reading.specs.AnswerNumbers.{longResult};
+ghost use Rattle.reading.specs.Limits.{resultBytes, resultLevels};
 ghost use Rattle.reading.specs.Reading.{treeOf, Exactly};
 ghost use Rattle.rules.specs.Lists.{known};
-ghost use Rattle.rules.specs.Steps.{ran, eliminated};
-ghost use Rattle.elimination.specs.Stepping.{held};
+ghost use Rattle.rules.specs.Levels.{Wide};
+ghost use Rattle.rules.specs.Steps.{eliminated};
+ghost use Rattle.elimination.specs.Stepping.{held, Stands};
 ghost use Rattle.elimination.specs.Finishing.{Unquantified};
-ghost use Rattle.elimination.specs.Eliminating.{Accepted, Gives};
-ghost use Rattle.rules.specs.Eliminate.{cleared, eliminate, refused, verdictBy, byRun};
+ghost use Rattle.elimination.specs.Eliminating.{Accepted, Gives, Carries, sheetRoom};
+ghost use Rattle.rules.specs.Eliminate.{cleared, eliminate, eliminateIn, refused, delivered, verdictBy, byRun, roomBytes};
+
+// Room for the copies of a body, in a formula no longer than a sheet and in any formula: for a list up to six bytes longer than a result, and then
+// for a copy, which has at most seven times the bytes of the body.
+const SHEET_ROOM: usize = 98304;
+
+const ROOM: usize = 524288;
 
 // Zeros in the bytes that an elimination may write.
 fn clear(d: &mut [u8])
@@ -64,13 +76,12 @@ fn stopped(result: &mut [u8], work: &mut [u8], number: usize, place: usize) -> R
     refused(number, place)
 }
 
-// The finishing pass and what is delivered, for a sheet of `sheet` bytes.
-fn ended(result: &mut [u8], work: &mut [u8], len: usize, sheet: usize) -> Reply
-    requires { ⌜ Unquantified len (now result) ⌝ }
-    requires { ⌜ resultBytes ≤ length (now work) ⌝ }
-    ensures { λ r. ⌜ Gives (byRun sheet (ran (held len (now (result .entry)))) (now (result .entry)) (now (work .entry))) r (now (result .exit)) (now (work .exit)) ⌝ }
+// What is delivered once the finishing pass came to `end` bytes, for a sheet of `sheet` bytes.
+fn given(result: &mut [u8], work: &mut [u8], end: usize, sheet: usize) -> Reply
+    requires { ⌜ (resultBytes ≤ length (now result)) × (resultBytes ≤ length (now work)) ⌝ }
+    requires { ⌜ (end ≤ resultBytes → Exactly (take end (now result)) (held end (now result))) ⌝ }
+    ensures { λ r. ⌜ Gives (cond (ltb resultBytes end) (refused longResult sheet (cleared (now (result .entry))) (cleared (now (work .entry)))) (delivered (held end (now (result .entry))) (now (result .entry)) (now (work .entry)))) r (now (result .exit)) (now (work .exit)) ⌝ }
 {
-    let end = finishing::finish(result, len);
     if end > RESULT_BYTES {
         return stopped(result, work, 12, sheet);
     }
@@ -84,16 +95,97 @@ fn ended(result: &mut [u8], work: &mut [u8], len: usize, sheet: usize) -> Reply
     }
 }
 
-// The elimination of a sheet that reading accepts.
+// The finishing pass and what is delivered, for a sheet of `sheet` bytes.
+fn ended(result: &mut [u8], work: &mut [u8], room: &mut [u8], len: usize, sheet: usize) -> Carried
+    requires { ⌜ Unquantified len (now result) ⌝ }
+    requires { ⌜ Wide resultLevels (held len (now result)) ⌝ }
+    requires { ⌜ resultBytes ≤ length (now work) ⌝ }
+    ensures { λ r. ⌜ Carries (held len (now (result .entry))) sheet (length (now (room .entry))) (now (result .entry)) (now (result .exit)) (now (work .entry)) (now (work .exit)) r ⌝ }
+{
+    let f = finishing::finish(result, work, room, len);
+    match f {
+        Finished::Short => Carried::Short(len),
+        Finished::Fine(end) => Carried::Done(given(result, work, end, sheet)),
+    }
+}
+
+// What is left of an elimination, once the formula in the first len bytes of the result buffer is reached.
+fn carried(result: &mut [u8], work: &mut [u8], room: &mut [u8], len: usize, sheet: usize) -> Carried
+    requires { ⌜ Stands len (now result) ⌝ }
+    requires { ⌜ Wide resultLevels (held len (now result)) ⌝ }
+    requires { ⌜ resultBytes ≤ length (now work) ⌝ }
+    ensures { λ r. ⌜ Carries (held len (now (result .entry))) sheet (length (now (room .entry))) (now (result .entry)) (now (result .exit)) (now (work .entry)) (now (work .exit)) r ⌝ }
+{
+    let r = running::steps(result, work, room, len);
+    match r {
+        Ran::Short(n) => Carried::Short(n),
+        Ran::Refused(number, place) => Carried::Done(stopped(result, work, number, place)),
+        Ran::Fine(n) => ended(result, work, room, n, sheet),
+    }
+}
+
+// The same in a room of its own, as a formula asks for that is no longer than a sheet.
+fn carried_far(result: &mut [u8], work: &mut [u8], len: usize, sheet: usize) -> Carried
+    requires { ⌜ Stands len (now result) ⌝ }
+    requires { ⌜ Wide resultLevels (held len (now result)) ⌝ }
+    requires { ⌜ resultBytes ≤ length (now work) ⌝ }
+    ensures { λ r. ⌜ Carries (held len (now (result .entry))) sheet sheetRoom (now (result .entry)) (now (result .exit)) (now (work .entry)) (now (work .exit)) r ⌝ }
+{
+    let mut room = [0u8; SHEET_ROOM];
+    carried(result, work, &mut room, len, sheet)
+}
+
+// The same in as much room as any formula asks for.
+fn carried_out(result: &mut [u8], work: &mut [u8], len: usize, sheet: usize) -> Reply
+    requires { ⌜ Stands len (now result) ⌝ }
+    requires { ⌜ Wide resultLevels (held len (now result)) ⌝ }
+    requires { ⌜ resultBytes ≤ length (now work) ⌝ }
+    ensures { λ r. ⌜ Gives (byRun sheet (eliminated (held len (now (result .entry)))) (now (result .entry)) (now (work .entry))) r (now (result .exit)) (now (work .exit)) ⌝ }
+{
+    let mut room = [0u8; ROOM];
+    match carried(result, work, &mut room, len, sheet) {
+        Carried::Done(r) => r,
+        Carried::Short(_) => refused(0, 0),
+    }
+}
+
+// The elimination of a sheet that reading accepts, as far as the room allows.
+fn begun(sheet: &[u8], result: &mut [u8], work: &mut [u8], room: &mut [u8]) -> Carried
+    requires { ⌜ Accepted (now sheet) ⌝ }
+    requires { ⌜ (resultBytes ≤ length (now result)) × (resultBytes ≤ length (now work)) ⌝ }
+    ensures { λ r. ⌜ Carries (treeOf (now (sheet .entry))) (length (now (sheet .entry))) (length (now (room .entry))) (now (result .entry)) (now (result .exit)) (now (work .entry)) (now (work .exit)) r ⌝ }
+{
+    writing::paste(result, 0, sheet, 0, sheet.len());
+    carried(result, work, room, sheet.len(), sheet.len())
+}
+
+// The elimination of a sheet that reading accepts: with no room beside the work buffer, and with more where that is too little. To clear room takes
+// longer than most steps.
 fn accepted(sheet: &[u8], result: &mut [u8], work: &mut [u8]) -> Reply
     requires { ⌜ Accepted (now sheet) ⌝ }
     requires { ⌜ (resultBytes ≤ length (now result)) × (resultBytes ≤ length (now work)) ⌝ }
     ensures { λ r. ⌜ Gives (byRun (length (now (sheet .entry))) (eliminated (treeOf (now (sheet .entry)))) (now (result .entry)) (now (work .entry))) r (now (result .exit)) (now (work .exit)) ⌝ }
 {
-    writing::paste(result, 0, sheet, 0, sheet.len());
-    match running::steps(result, work, sheet.len()) {
-        Ran::Refused(number, place) => stopped(result, work, number, place),
-        Ran::Fine(len) => ended(result, work, len, sheet.len()),
+    let mut none = [0u8; 1];
+    match begun(sheet, result, work, &mut none) {
+        Carried::Done(r) => r,
+        Carried::Short(n) => match carried_far(result, work, n, sheet.len()) {
+            Carried::Done(r) => r,
+            Carried::Short(m) => carried_out(result, work, m, sheet.len()),
+        },
+    }
+}
+
+// The same in the caller's room.
+fn accepted_in(sheet: &[u8], result: &mut [u8], work: &mut [u8], room: &mut [u8]) -> Reply
+    requires { ⌜ Accepted (now sheet) ⌝ }
+    requires { ⌜ (resultBytes ≤ length (now result)) × (resultBytes ≤ length (now work)) ⌝ }
+    requires { ⌜ roomBytes ≤ length (now room) ⌝ }
+    ensures { λ r. ⌜ Gives (byRun (length (now (sheet .entry))) (eliminated (treeOf (now (sheet .entry)))) (now (result .entry)) (now (work .entry))) r (now (result .exit)) (now (work .exit)) ⌝ }
+{
+    match begun(sheet, result, work, room) {
+        Carried::Done(r) => r,
+        Carried::Short(_) => refused(0, 0),
     }
 }
 
@@ -110,5 +202,32 @@ pub fn eliminate(sheet: &[u8], result: &mut [u8], work: &mut [u8]) -> Reply
     match read_whole(sheet, Limit::Sheet) {
         reading::Reply::Refused(number, place) => refused(number, place),
         reading::Reply::Done(_) => accepted(sheet, result, work),
+    }
+}
+
+// How much room any formula asks for, by a call: a proof then meets its answer and not the number, half a million times one.
+fn room_asked() -> usize
+    ensures { λ r. ⌜ r ≡ roomBytes ⌝ }
+{
+    ROOM
+}
+
+// The same with the caller's room for the copies, on little stack.
+pub fn eliminate_in(sheet: &[u8], result: &mut [u8], work: &mut [u8], room: &mut [u8]) -> Reply
+    ensures { λ r. ⌜ Gives (eliminateIn (length (now (room .entry))) (now (sheet .entry)) (now (result .entry)) (now (work .entry))) r (now (result .exit)) (now (work .exit)) × (drop roomBytes (now (room .exit)) ≡ drop roomBytes (now (room .entry))) ⌝ }
+{
+    if result.len() < RESULT_BYTES {
+        return refused(1, 0);
+    }
+    if work.len() < RESULT_BYTES {
+        return refused(1, 0);
+    }
+    let least = room_asked();
+    if room.len() < least {
+        return refused(1, 0);
+    }
+    match read_whole(sheet, Limit::Sheet) {
+        reading::Reply::Refused(number, place) => refused(number, place),
+        reading::Reply::Done(_) => accepted_in(sheet, result, work, &mut room[..least]),
     }
 }

@@ -1,5 +1,7 @@
 // The finishing pass over a formula without quantifiers, in a buffer.
 use crate::Copied;
+use crate::Finished;
+use crate::Way;
 use crate::copying;
 use crate::writing;
 use exact::Point;
@@ -8,14 +10,10 @@ use reading::RESULT_BYTES;
 ghost use mathlib.Core.Path.{_≡_};
 ghost use Prim.Native.Nat.{_*_, _≤_};
 ghost use lib.ListN.{length};
+ghost use Rattle.reading.specs.Limits.{resultBytes};
 ghost use Rattle.exact.specs.Atoms.{nowhere, spotOf, Ready};
 ghost use Rattle.elimination.specs.Stepping.{held};
-ghost use Rattle.elimination.specs.Finishing.{shortScratch, Unquantified, Finishes};
-
-// The scratch of the finishing pass: a short formula's, and any formula's. A copy has at most seven times the bytes.
-const SHORT_SCRATCH: usize = 4096;
-
-const LONG_SCRATCH: usize = 7 * RESULT_BYTES;
+ghost use Rattle.elimination.specs.Finishing.{Unquantified, FinishesIn, Finishes};
 
 // The point of the finishing pass.
 fn no_point() -> Point
@@ -32,9 +30,14 @@ fn no_point() -> Point
 fn finish_in(cur: &mut [u8], len: usize, out: &mut [u8]) -> usize
     requires { ⌜ Unquantified len (now cur) ⌝ }
     requires { ⌜ 7 * len ≤ length (now out) ⌝ }
-    ensures { λ r. ⌜ Finishes (held len (now (cur .entry))) (now (cur .entry)) (now (cur .exit)) r ⌝ }
+    ensures { λ r. ⌜ FinishesIn (held len (now (cur .entry))) (now (cur .entry)) (now (cur .exit)) r ⌝ }
 {
-    match copying::copied(&cur[..len], false, no_point(), out, 0) {
+    let way = Way {
+        calm: true,
+        marked: false,
+    };
+    let marks = [0u8; 1];
+    match copying::copied(&cur[..len], false, way, no_point(), out, 0, &marks) {
         Copied::Decided(_, v) => {
             writing::put_list(cur, 0, v, 0);
             6
@@ -49,30 +52,17 @@ fn finish_in(cur: &mut [u8], len: usize, out: &mut [u8]) -> usize
     }
 }
 
-fn finish_short(cur: &mut [u8], len: usize) -> usize
+// The finishing pass, in the work buffer or in the room. A copy has at most seven times the bytes.
+pub fn finish(cur: &mut [u8], work: &mut [u8], room: &mut [u8], len: usize) -> Finished
     requires { ⌜ Unquantified len (now cur) ⌝ }
-    requires { ⌜ 7 * len ≤ shortScratch ⌝ }
-    ensures { λ r. ⌜ Finishes (held len (now (cur .entry))) (now (cur .entry)) (now (cur .exit)) r ⌝ }
+    requires { ⌜ resultBytes ≤ length (now work) ⌝ }
+    ensures { λ r. ⌜ Finishes (held len (now (cur .entry))) (length (now (room .entry))) (now (cur .entry)) (now (cur .exit)) (now (work .entry)) (now (work .exit)) r ⌝ }
 {
-    let mut out = [0u8; SHORT_SCRATCH];
-    finish_in(cur, len, &mut out)
-}
-
-fn finish_long(cur: &mut [u8], len: usize) -> usize
-    requires { ⌜ Unquantified len (now cur) ⌝ }
-    ensures { λ r. ⌜ Finishes (held len (now (cur .entry))) (now (cur .entry)) (now (cur .exit)) r ⌝ }
-{
-    let mut out = [0u8; LONG_SCRATCH];
-    finish_in(cur, len, &mut out)
-}
-
-// The finishing pass, with as much scratch as it needs.
-pub fn finish(cur: &mut [u8], len: usize) -> usize
-    requires { ⌜ Unquantified len (now cur) ⌝ }
-    ensures { λ r. ⌜ Finishes (held len (now (cur .entry))) (now (cur .entry)) (now (cur .exit)) r ⌝ }
-{
-    if 7 * len <= SHORT_SCRATCH {
-        return finish_short(cur, len);
+    if 7 * len <= RESULT_BYTES {
+        return Finished::Fine(finish_in(cur, len, &mut work[..RESULT_BYTES]));
     }
-    finish_long(cur, len)
+    if 7 * len <= room.len() {
+        return Finished::Fine(finish_in(cur, len, room));
+    }
+    Finished::Short
 }

@@ -48,7 +48,7 @@ gcd-zero a = sym (gcd-eq (is-zero a))
 pub gcd-mod : (a b : ℕ) → gcdOf b (a % b) ≡ gcdOf a b
 gcd-mod a b = gcd-eq (is-step (gcd-is b (a % b)))
 
-gcd-comm : (a b : ℕ) → gcdOf a b ≡ gcdOf b a
+pub gcd-comm : (a b : ℕ) → gcdOf a b ≡ gcdOf b a
 gcd-comm a b = let p = gcd-is a b in gcd-eq (record { left = p .right; right = p .left; great = λ k h l. p .great k l h })
 
 pub gcd-le : (a b n : ℕ) → a ≤ n → b ≤ n → gcdOf a b ≤ n

@@ -1,16 +1,16 @@
 -- A row and its reduced row: reducing takes out a factor above 0, so no sign changes; a row multiplied by a number above 0 reduces to the same;
--- what is reduced stays as it is, and its divisor is 1 unless it is all zeros. Assumes nothing.
-use mathlib.Core.Path.{_≡_, refl, sym, _∙_, ap, subst}
+-- and the divisor of what is reduced is 1 unless it is all zeros. Assumes nothing.
+use mathlib.Core.Path.{_≡_, refl, sym, _∙_, ap}
 use mathlib.Core.List.{List, [], _∷_}
-use Prim.Native.Nat.{ℕ, zero, suc, _*_, _/_, _<_, _∣_}
+use Prim.Native.Nat.{ℕ, zero, suc, _*_, _/_, _<_}
 use native.Mathlib.Nat as N
 use lib.IntN.{ℤ, pos, negsuc, negℤ, natAbs, _*ℤ_, *ℤ-comm}
 use lib.Signed.{quotZ}
 use Rattle.exact.specs.Numbers.{at}
-use Rattle.exact.specs.Divisor.{gcdOf, gcdFrom, gcds, quots, reduced, dividedBy}
+use Rattle.exact.specs.Divisor.{gcdOf, gcdFrom, gcds, quots, reduced}
 use Rattle.exact.proofs.Sizes.{abs-*}
 use Rattle.exact.proofs.Divisors.{gcd-mul}
-use Rattle.exact.proofs.Rows.{times, at-times, by-at, gcds-divides, reduced-times, reduced-zero}
+use Rattle.exact.proofs.Rows.{times, at-times, reduced-times, reduced-zero}
 use Rattle.exact.proofs.Ring.{_⊗_, *ℤ-one-l}
 use Rattle.exact.proofs.Order.{sgn, sgn-up}
 
@@ -65,20 +65,3 @@ sgn-reduced l i =
 pub reduced-one : (l : List ℤ) → zero < gcds l → gcds (reduced l) ≡ 1
 reduced-one l h =
     N.eq-of-mul-eq-mul-right (gcds l) h (gcds (reduced l)) 1 (sym (gcds-scale (gcds l) (reduced l)) ∙ ap gcds (reduced-times l) ∙ sym (N.one-mul (gcds l)))
-
--- a row of the divisor 1 is reduced, and so is one with a number 1
-divided-one : (z : ℤ) → dividedBy 1 z ≡ z
-divided-one (pos a) = ap pos (N.div-one a)
-divided-one (negsuc a) = ap (λ (n : ℕ). negℤ (pos n)) (N.div-one (suc a))
-
-quots-one : (l : List ℤ) → quots 1 l ≡ l
-unfolding quots
-quots-one [] = refl
-quots-one (z ∷ l) = λ i. divided-one z i ∷ quots-one l i
-
-one-reduced : (l : List ℤ) → gcds l ≡ 1 → reduced l ≡ l
-unfolding reduced
-one-reduced l e = ap (λ (g : ℕ). quots g l) e ∙ quots-one l
-
-pub unit-reduced : (l : List ℤ) (i : ℕ) → natAbs (at l i) ≡ 1 → reduced l ≡ l
-unit-reduced l i e = one-reduced l (N.eq-one-of-dvd-one (subst (λ (n : ℕ). gcds l ∣ n) e (by-at (gcds l) l (gcds-divides l) i)))

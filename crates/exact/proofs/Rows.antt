@@ -1,5 +1,5 @@
 -- Rows of whole numbers: their greatest common divisor divides each and is the greatest such, a row divided by it and multiplied again is as
--- it was, and bounds on each number carry over. Assumes nothing.
+-- it was, a row whose divisor is 0 or 1 stays as it is, and bounds on each number carry over. Assumes nothing.
 use mathlib.Core.Path.{_≡_, refl, sym, _∙_, ap, ap₂, subst}
 use mathlib.Core.List.{List, [], _∷_}
 use mathlib.Core.Bool.{Bool, true, false, not, cond, _&&_}
@@ -18,7 +18,7 @@ use mir.Val.{toZ, ofZ}
 use Rattle.reading.specs.Limits.{M}
 use Rattle.reading.specs.Formula.{AllM}
 use Rattle.exact.specs.Numbers.{at, Within, Each, allIn, isZero, eqZ, sameRow, tab, minus, single}
-use Rattle.exact.specs.Divisor.{gcdOf, gcdFrom, gcds, quots, reduced}
+use Rattle.exact.specs.Divisor.{gcdOf, gcdFrom, gcds, quots, reduced, dividedBy}
 use Rattle.exact.specs.Atoms.{allZero}
 use Rattle.exact.proofs.Sizes.{quot-exact, rd, fits, in-quot, in-more, in-rd, in-neg}
 use Rattle.exact.proofs.Loops.{allB, getD-tab}
@@ -78,6 +78,10 @@ from-divides g (z ∷ l) =
     let d = gcdFrom (gcdOf g (natAbs z)) l in
     (N.dvd-trans d (ih .0) (gcd-is g (natAbs z) .left), (N.dvd-trans d (ih .0) (gcd-is g (natAbs z) .right), ih .1))
 
+-- once the divisor is 1, the rest does not matter
+pub from-one : (l : List ℤ) → gcdFrom 1 l ≡ 1
+from-one l = N.eq-one-of-dvd-one (from-divides 1 l .0)
+
 pub gcds-divides : (l : List ℤ) → EachBy (gcds l) l
 unfolding gcds
 gcds-divides l = from-divides 0 l .1
@@ -115,6 +119,29 @@ by-zero (z ∷ l) e = λ i. zero-abs z (N.eq-zero-of-zero-dvd (e .0)) i ∷ by-z
 pub reduced-zero : (l : List ℤ) → gcds l ≡ 0 → l ≡ reduced l
 unfolding reduced
 reduced-zero l e = sym (ap (λ (g : ℕ). quots g l) e ∙ by-zero l (subst (λ (g : ℕ). EachBy g l) e (gcds-divides l)))
+
+-- where the divisor is 1, each number stays
+divided-one : (z : ℤ) → dividedBy 1 z ≡ z
+divided-one (pos a) = ap pos (N.div-one a)
+divided-one (negsuc a) = ap (λ (n : ℕ). negℤ (pos n)) (N.div-one (suc a))
+
+quots-one : (l : List ℤ) → quots 1 l ≡ l
+unfolding quots
+quots-one [] = refl
+quots-one (z ∷ l) = λ i. divided-one z i ∷ quots-one l i
+
+pub one-reduced : (l : List ℤ) → gcds l ≡ 1 → reduced l ≡ l
+unfolding reduced
+one-reduced l e = ap (λ (g : ℕ). quots g l) e ∙ quots-one l
+
+-- so a row whose divisor is not above 1 stays as it is
+pub reduced-low : (l : List ℤ) → gcds l ≤ 1 → l ≡ reduced l
+reduced-low l h = go (gcds l) refl h
+  where
+    go : (g : ℕ) → gcds l ≡ g → g ≤ 1 → l ≡ reduced l
+    go zero e h = reduced-zero l e
+    go (suc zero) e h = sym (one-reduced l e)
+    go (suc (suc g)) e h = absurd (N.not-suc-le-zero (N.le-of-suc-le-suc h))
 
 pub reduced-is : (l : List ℤ) (g : ℕ) → g ≡ gcds l → quots g l ≡ reduced l
 unfolding reduced
@@ -291,6 +318,10 @@ pub by-at : (k : ℕ) (l : List ℤ) → EachBy k l → (i : ℕ) → k ∣ natA
 by-at k [] e i = N.dvd-zero k
 by-at k (z ∷ l) e zero = e .0
 by-at k (z ∷ l) e (suc i) = by-at k l (e .1) i
+
+-- a row with a number 1 is reduced
+pub unit-reduced : (l : List ℤ) (i : ℕ) → natAbs (at l i) ≡ 1 → reduced l ≡ l
+unit-reduced l i e = one-reduced l (N.eq-one-of-dvd-one (subst (λ (n : ℕ). gcds l ∣ n) e (by-at (gcds l) l (gcds-divides l) i)))
 
 -- ---- rows in −M..M, as the ranges of a record say it and as the laws of rows do
 

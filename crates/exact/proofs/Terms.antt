@@ -24,8 +24,8 @@ use Rattle.exact.proofs.Order.{positive, sgn, up-⊗, above-pos}
 use Rattle.exact.proofs.Sizes.{in-neg, in-more, in-+, in-*, in-lit}
 use Rattle.exact.proofs.Loops.{fill-done, length-tab, tab-ext}
 use Rattle.reading.proofs.Filling.{Filled, fill-more}
-use Rattle.exact.proofs.Rows.{each-tab, each-reduced, at-minus, at-tab, at-times, at-set, at-single, single-here, each-cons, each-nil, length-times, times}
-use Rattle.exact.proofs.Reduced.{sgn-reduced, reduced-scale, unit-reduced}
+use Rattle.exact.proofs.Rows.{each-tab, each-reduced, at-minus, at-tab, at-times, at-set, at-single, single-here, each-cons, each-nil, length-times, times, unit-reduced}
+use Rattle.exact.proofs.Reduced.{sgn-reduced, reduced-scale}
 
 pub left-out : (ns : List ℤ) (x i : ℕ) → i ≡ x → pos 0 ≡ leftAt ns x i
 unfolding leftAt

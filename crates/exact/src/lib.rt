@@ -10,12 +10,15 @@ pub use atom::holds;
 pub use number::abs;
 pub use number::gcd;
 pub use number::neg;
+pub use row::all_zero;
+pub use row::gcd_all;
 pub use row::negated;
 pub use row::reduce;
 pub use row::same_row;
 pub use row::single;
 pub use row::within_all;
 pub use term::bound_of;
+pub use term::left;
 pub use term::midpoint;
 pub use term::term_of;
 

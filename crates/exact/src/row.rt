@@ -9,7 +9,7 @@ ghost use Rattle.exact.specs.Numbers.{Each, allIn, sameRow, minus, singl
 ghost use Rattle.exact.specs.Divisor.{gcds, quots, reduced};
 ghost use Rattle.exact.specs.Atoms.{allZero};
 
-// The greatest common divisor of the numbers of a row.
+// The greatest common divisor of the numbers of a row; once it is 1 the others do not matter.
 pub fn gcd_all(s: &[i64]) -> u64
     requires { ⌜ Each 9223372036854775807 (now s) ⌝ }
     ensures { λ r. ⌜ r ≡ gcds (now (s .entry)) ⌝ }
@@ -19,7 +19,12 @@ pub fn gcd_all(s: &[i64]) -> u64
     while i < s.len() {
         let x = s[i];
         let a = number::abs(x);
-        g = number::gcd(g, a);
+        if a != 0 {
+            g = number::gcd(a, g);
+            if g == 1 {
+                return 1;
+            }
+        }
         i += 1;
     }
     g
@@ -40,13 +45,13 @@ pub fn div_all(s: &mut [i64], g: u64)
     }
 }
 
-// A row divided by its greatest common divisor; zeros stay as they are.
+// A row divided by its greatest common divisor; zeros stay as they are, and so does a row whose divisor is 1.
 pub fn reduce(s: &mut [i64])
     requires { ⌜ Each 9223372036854775807 (now s) ⌝ }
     ensures { λ _. ⌜ now (s .exit) ≡ reduced (now (s .entry)) ⌝ }
 {
     let g = gcd_all(s);
-    if g != 0 {
+    if g > 1 {
         div_all(s, g);
     }
 }

@@ -15,7 +15,7 @@ unfolding ints
 ints-count zero i s = refl
 ints-count (suc n) i s = ap suc (ints-count n (i + 4) s)
 
-ints-at : (n i k : ℕ) (s : List ℕ) → k < n → getD (ints n i s) k (pos 0) ≡ int4 s (i + 4 * k)
+pub ints-at : (n i k : ℕ) (s : List ℕ) → k < n → getD (ints n i s) k (pos 0) ≡ int4 s (i + 4 * k)
 unfolding ints
 ints-at zero i k s h = absurd (omega arith)
 ints-at (suc n) i zero s h = ap (int4 s) (omega arith)

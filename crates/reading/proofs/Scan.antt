@@ -10,7 +10,7 @@ use lib.Seq.{drop-append-seam, drop-drop, getD-drop}
 use mathlib.Core.Bool.{Bool, true, false, cond}
 use Rattle.reading.specs.Limits.{treeLevels}
 use Rattle.reading.specs.Bytes.{le2}
-use Rattle.reading.specs.Formula.{Formula, Formulas, count, Label, kindNo, size, fieldBytes, recordBytes, encode, encodes, InRange, Fits, AllFit, less, atmost, equal, atom, not, list, quant, window, none, more, atomL, notL, listL, quantL, windowL}
+use Rattle.reading.specs.Formula.{Formula, Formulas, count, Label, labelOf, kindNo, size, fieldBytes, recordBytes, encode, encodes, InRange, Fits, AllFit, less, atmost, equal, atom, not, list, quant, window, none, more, atomL, notL, listL, quantL, windowL}
 use Rattle.reading.specs.Reading.{treeOf, Exactly}
 use Rattle.reading.specs.Quantifiers.{Quantifier, met, seek, seeks, foundOf, isQuantifier, nothing, at}
 use Rattle.reading.specs.declared.Found.{Found}
@@ -21,7 +21,7 @@ use Rattle.reading.proofs.Trees.{fits-more, all-fit-more}
 -- ---- formulas one after the other
 
 infixr 5 _and_
-abbrev _and_ : Formulas → Formulas → Formulas
+abbrev pub _and_ : Formulas → Formulas → Formulas
 none and gs = gs
 more f fs and gs = more f (fs and gs)
 
@@ -43,19 +43,12 @@ and-seeks last cur p (more f fs) gs =
 
 -- ---- a formula taken apart: its record, what is left, and what is found at the record
 
-abbrev label : Formula → Label
-label (atom c ns) = atomL c ns
-label (not f) = notL
-label (list b fs) = listL b (count fs)
-label (quant b v f) = quantL b v
-label (window v lo hi) = windowL v lo hi
-
-abbrev rest : Formula → Formulas → Formulas
-rest (atom c ns) gs = gs
-rest (not f) gs = more f gs
-rest (list b fs) gs = fs and gs
-rest (quant b v f) gs = more f gs
-rest (window v lo hi) gs = gs
+abbrev pub restOf : Formula → Formulas → Formulas
+restOf (atom c ns) gs = gs
+restOf (not f) gs = more f gs
+restOf (list b fs) gs = fs and gs
+restOf (quant b v f) gs = more f gs
+restOf (window v lo hi) gs = gs
 
 abbrev noticed : Bool → Quantifier → ℕ → Formula → Quantifier
 noticed last cur p (atom c ns) = cur
@@ -64,7 +57,7 @@ noticed last cur p (list b fs) = cur
 noticed last cur p (quant b v f) = met last cur (at p b v f)
 noticed last cur p (window v lo hi) = cur
 
-apart-bytes : (f : Formula) (gs : Formulas) → encode f ++ encodes gs ≡ recordBytes (label f) ++ encodes (rest f gs)
+pub apart-bytes : (f : Formula) (gs : Formulas) → encode f ++ encodes gs ≡ recordBytes (labelOf f) ++ encodes (restOf f gs)
 unfolding encode
 apart-bytes (atom c ns) gs = refl
 apart-bytes (not f) gs = append-assoc (recordBytes notL) (encode f) (encodes gs)
@@ -72,21 +65,21 @@ apart-bytes (list b fs) gs = append-assoc (recordBytes (listL b (count fs))) (en
 apart-bytes (quant b v f) gs = append-assoc (recordBytes (quantL b v)) (encode f) (encodes gs)
 apart-bytes (window v lo hi) gs = refl
 
-apart-range : (d : ℕ) (f : Formula) → Fits d f → InRange (label f)
+pub apart-range : (d : ℕ) (f : Formula) → Fits d f → InRange (labelOf f)
 apart-range d (atom c ns) w = w .1
 apart-range d (not f) w = tt
 apart-range d (list b fs) w = w .1
 apart-range d (quant b v f) w = w .1
 apart-range d (window v lo hi) w = w .1
 
-apart-fit : (d : ℕ) (f : Formula) (gs : Formulas) → Fits d f → AllFit d gs → AllFit d (rest f gs)
+pub apart-fit : (d : ℕ) (f : Formula) (gs : Formulas) → Fits d f → AllFit d gs → AllFit d (restOf f gs)
 apart-fit d (atom c ns) gs w x = x
 apart-fit d (not f) gs w x = (fits-more f (d - 1) d (omega arith) (w .1), x)
 apart-fit d (list b fs) gs w x = and-fit d fs gs (all-fit-more fs (d - 1) d (omega arith) (w .2)) x
 apart-fit d (quant b v f) gs w x = (fits-more f (d - 1) d (omega arith) (w .2), x)
 apart-fit d (window v lo hi) gs w x = x
 
-apart-seeks : (last : Bool) (cur : Quantifier) (d p : ℕ) (f : Formula) (gs : Formulas) → Fits d f → seeks last cur p (more f gs) ≡ seeks last (noticed last cur p f) (p + size (label f)) (rest f gs)
+apart-seeks : (last : Bool) (cur : Quantifier) (d p : ℕ) (f : Formula) (gs : Formulas) → Fits d f → seeks last cur p (more f gs) ≡ seeks last (noticed last cur p f) (p + size (labelOf f)) (restOf f gs)
 unfolding seek encode recordBytes fieldBytes
 apart-seeks last cur d p (atom c ns) gs w = ap (λ (n : ℕ). seeks last cur (p + n) gs) (record-long (atomL c ns) (w .1))
 apart-seeks last cur d p (not f) gs w = ap (λ (n : ℕ). seeks last (seek last cur (p + 4) f) n gs) (omega arith)
@@ -106,7 +99,7 @@ met-after true cur p b v f = refl
 met-after false nothing p b v f = refl
 met-after false (at o c u g) p b v f = refl
 
-apart-kind : (last : Bool) (cur : Quantifier) (p : ℕ) (f : Formula) → foundOf (noticed last cur p f) ≡ cond (isQuantifier (kindNo (label f))) (after last (foundOf cur) p) (foundOf cur)
+apart-kind : (last : Bool) (cur : Quantifier) (p : ℕ) (f : Formula) → foundOf (noticed last cur p f) ≡ cond (isQuantifier (kindNo (labelOf f))) (after last (foundOf cur) p) (foundOf cur)
 unfolding isQuantifier
 apart-kind last cur p (atom less ns) = refl
 apart-kind last cur p (atom atmost ns) = refl
@@ -157,8 +150,8 @@ scan-begins last s x = record {
 scan-apart : (last : Bool) (goal : Found) (s : List ℕ) (p : ℕ) (found : Found) (cur : Quantifier) (f : Formula) (gs : Formulas)
     → drop p s ≡ encode f ++ encodes gs → Fits treeLevels f → AllFit treeLevels gs → found ≡ foundOf cur → goal ≡ foundOf (seeks last cur p (more f gs)) → p ≤ length s → ScanStep last goal s p found
 scan-apart last goal s p found cur f gs e w x is finds h =
-    let l = label f in
-    let u = encodes (rest f gs) in
+    let l = labelOf f in
+    let u = encodes (restOf f gs) in
     let b : drop p s ≡ recordBytes l ++ u = e ∙ apart-bytes f gs in
     let k = header l u in
     let n = record-long l (apart-range treeLevels f w) in
@@ -170,7 +163,7 @@ scan-apart last goal s p found cur f gs e w x is finds h =
       long = omega (arith, size-small l .0);
       next = rw (at0, at2) (record {
         cur = noticed last cur p f;
-        left = rest f gs;
+        left = restOf f gs;
         bytes = sym (drop-drop (size l) p s) ∙ ap (drop (size l)) b ∙ rw (← n) (drop-append-seam (recordBytes l) u);
         fits = apart-fit treeLevels f gs w x;
         is = rw is (sym (apart-kind last cur p f));
@@ -196,8 +189,8 @@ scan-ends {last} {goal} {s} {p} {found} w h = go (w .left) (w .bytes) (w .fits) 
     go : (fs : Formulas) → drop p s ≡ encodes fs → AllFit treeLevels fs → goal ≡ foundOf (seeks last (w .cur) p fs) → found ≡ goal
     go none e x finds = w .is ∙ sym finds
     go (more f gs) e x finds =
-        let n = record-long (label f) (apart-range treeLevels f (x .0)) in
-        absurd (omega (arith, length-drop p s, ap length (e ∙ apart-bytes f gs), length-append (recordBytes (label f)) (encodes (rest f gs)), n, size-small (label f) .0))
+        let n = record-long (labelOf f) (apart-range treeLevels f (x .0)) in
+        absurd (omega (arith, length-drop p s, ap length (e ∙ apart-bytes f gs), length-append (recordBytes (labelOf f)) (encodes (restOf f gs)), n, size-small (labelOf f) .0))
 
 -- the first quantifier that is met stays
 mutual

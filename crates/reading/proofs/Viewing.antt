@@ -3,13 +3,14 @@
 use mathlib.Core.Path.{_≡_, refl, sym, _∙_, ap, ap₂}
 use mathlib.Core.Bool.{Bool, true, false, cond}
 use mathlib.Core.List.{List, _++_}
-use Prim.Native.Nat.{ℕ, _≤_}
+use Prim.Native.Nat.{ℕ, _+_, _*_, _≤_, _<_}
 use native.Mathlib.Omega.{arith}
 use lib.Dec.{eqb}
-use lib.ListN.{length}
-use Rattle.reading.specs.Limits.{lastVariable}
+use lib.ListN.{length, getD}
+use lib.IntN.{ℤ, pos}
+use Rattle.reading.specs.Limits.{lastVariable, variables}
 use Rattle.reading.specs.Bytes.{le2, int4, ints}
-use Rattle.reading.specs.Formula.{Comparison, less, atmost, equal, comparisonNo, Formula, atom, not, list, quant, window, count, encode, recordBytes, fieldBytes, Free, IsList}
+use Rattle.reading.specs.Formula.{Comparison, less, atmost, equal, comparisonNo, Formula, atom, not, list, quant, window, count, follow, labelOf, encode, recordBytes, fieldBytes, Free, IsList}
 use Rattle.reading.specs.Reading.{Begins}
 use Rattle.reading.specs.Views.{comparisonCase, comparisonCaseNo, shapeOf, shapeNo, IsAtom, IsWindow, IsQuantifier, numbersOf, membersOf, windowOf, binderOf}
 use Rattle.reading.specs.declared.Comparison as Code
@@ -17,6 +18,7 @@ use Rattle.reading.specs.declared.Comparison.the-variants.{Less, AtMost,
 use Rattle.reading.specs.declared.Shape.{Shape}
 use Rattle.reading.specs.declared.Shape.the-variants as Shape
 use Rattle.reading.proofs.Laws.{two}
+use Rattle.reading.proofs.Ints.{ints-at}
 use Rattle.reading.proofs.Lengths.{list-long, four-long, begins-long}
 use Rattle.reading.proofs.Walking.{formulaKind, kind-is, atom-is, window-is, list-count}
 
@@ -66,6 +68,28 @@ begins-four {s} {f} b = omega (arith, four-long f, begins-long b)
 -- an atom's numbers, and the room that they take
 pub row-is : {s : List ℕ} (f : Formula) → Begins s f → IsAtom f → (ints 9 4 s ≡ numbersOf f) × (40 ≤ length s)
 row-is f b i = let a = atom-is f b i in (sym (ap numbersOf (a .is)), a .room)
+
+-- the coefficient of x
+pub coefficient-is : {s : List ℕ} (f : Formula) (x : ℕ) → Begins s f → IsAtom f → x < variables → (int4 s (4 + 4 * x) ≡ getD (numbersOf f) x (pos 0)) × (4 + 4 * x + 4 ≤ length s)
+coefficient-is {s} f x b i h = let r = row-is f b i in (sym (ints-at 9 4 x s (omega arith)) ∙ ap (λ (l : List ℤ). getD l x (pos 0)) (r .0), omega (arith, r .1))
+
+-- how many formulas follow a record, by its kind
+abbrev pub followIn : Shape → ℕ → ℕ
+followIn (Shape.Atom c) n = 0
+followIn Shape.Not n = 1
+followIn (Shape.List b) n = n
+followIn (Shape.Quantifier b) n = 1
+followIn Shape.Window n = 0
+
+follow-said : (f : Formula) → follow (labelOf f) ≡ followIn (shapeOf f) (count (membersOf f))
+follow-said (atom c ns) = refl
+follow-said (not f) = refl
+follow-said (list b fs) = refl
+follow-said (quant b v f) = refl
+follow-said (window v lo hi) = refl
+
+pub follow-is : (f : Formula) {k : Shape} → shapeOf f ≡ k → followIn k (count (membersOf f)) ≡ follow (labelOf f)
+follow-is f e = ap (λ (k : Shape). followIn k (count (membersOf f))) (sym e) ∙ sym (follow-said f)
 
 -- how many members a list has
 pub members-is : {s : List ℕ} (f : Formula) → Begins s f → IsList f → (le2 s 4 ≡ count (membersOf f)) × (6 ≤ length s)

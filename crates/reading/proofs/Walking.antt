@@ -10,11 +10,11 @@ use lib.Seq.{drop-at, drop-drop}
 use lib.IntN.{ℤ}
 use Rattle.reading.specs.Limits.{lastVariable, treeLevels}
 use Rattle.reading.specs.Bytes.{le2, int4, ints, bytes2}
-use Rattle.reading.specs.Formula.{Comparison, comparisonNo, Label, atomL, notL, listL, quantL, windowL, kindNo, Formula, Formulas, atom, not, list, quant, window, none, more, count, encode, encodes, recordBytes, fieldBytes, AllM, AllFit, Free, AllFree, IsList}
+use Rattle.reading.specs.Formula.{Comparison, comparisonNo, Label, labelOf, notL, listL, quantL, size, kindNo, Formula, Formulas, atom, not, list, quant, window, none, more, count, encode, encodes, recordBytes, fieldBytes, AllM, AllFit, Free, AllFree, IsList}
 use Rattle.reading.specs.Reading.{treeOf, Begins}
 use Rattle.reading.specs.Views.{IsAtom, IsWindow, shapeOf, membersOf}
 use Rattle.reading.specs.declared.Shape.the-variants as Shape
-use Rattle.reading.proofs.Laws.{two, kind-small, ints-read, window-read}
+use Rattle.reading.proofs.Laws.{two, kind-small, size-small, ints-read, window-read}
 use Rattle.reading.proofs.Reading.{part-drop}
 use Rattle.reading.proofs.Lengths.{atom-long, list-long, window-long, none-long, encodes-more, more-long, begins-long}
 use Rattle.reading.proofs.Trees.{fits-more, all-fit-more, tree-is}
@@ -29,20 +29,39 @@ formulaKind (list j fs) = kindNo (listL j 0)
 formulaKind (quant q v f) = kindNo (quantL q 0)
 formulaKind (window v lo hi) = 9
 
-kind-said : (l : Label) (u : List ℕ) → le2 (recordBytes l ++ u) 2 ≡ kindNo l
-unfolding recordBytes
-kind-said l u = two (kindNo l) (kind-small l)
-
-kind-bytes : (f : Formula) (u : List ℕ) → le2 (encode f ++ u) 2 ≡ formulaKind f
+-- a formula begins with its record
+record-first : (f : Formula) (u : List ℕ) → (v : List ℕ) × (encode f ++ u ≡ recordBytes (labelOf f) ++ v)
 unfolding encode
-kind-bytes (atom c ns) u = kind-said (atomL c ns) u
-kind-bytes (not f) u = ap (λ (l : List ℕ). le2 l 2) (append-assoc (recordBytes notL) (encode f) u) ∙ kind-said notL (encode f ++ u)
-kind-bytes (list j fs) u = ap (λ (l : List ℕ). le2 l 2) (append-assoc (recordBytes (listL j (count fs))) (encodes fs) u) ∙ kind-said (listL j (count fs)) (encodes fs ++ u)
-kind-bytes (quant q v f) u = ap (λ (l : List ℕ). le2 l 2) (append-assoc (recordBytes (quantL q v)) (encode f) u) ∙ kind-said (quantL q v) (encode f ++ u)
-kind-bytes (window v lo hi) u = kind-said (windowL v lo hi) u
+record-first (atom c ns) u = (u, refl)
+record-first (not f) u = (encode f ++ u, append-assoc (recordBytes notL) (encode f) u)
+record-first (list j fs) u = (encodes fs ++ u, append-assoc (recordBytes (listL j (count fs))) (encodes fs) u)
+record-first (quant q v f) u = (encode f ++ u, append-assoc (recordBytes (quantL q v)) (encode f) u)
+record-first (window v lo hi) u = (u, refl)
+
+kind-said : (f : Formula) → kindNo (labelOf f) ≡ formulaKind f
+kind-said (atom c ns) = refl
+kind-said (not f) = refl
+kind-said (list j fs) = refl
+kind-said (quant q v f) = refl
+kind-said (window v lo hi) = refl
+
+header : (l : Label) (u : List ℕ) → (le2 (recordBytes l ++ u) 0 ≡ size l) × (le2 (recordBytes l ++ u) 2 ≡ kindNo l)
+unfolding recordBytes
+header l u = (two (size l) (size-small l .1), two (kindNo l) (kind-small l))
+
+first-is : {s : List ℕ} {f : Formula} → Begins s f → (le2 s 0 ≡ size (labelOf f)) × (le2 s 2 ≡ kindNo (labelOf f))
+first-is {s} {f} b =
+    let r = record-first f (b .rest) in
+    let e = b .bytes ∙ r .1 in
+    let h = header (labelOf f) (r .0) in
+    (ap (λ (l : List ℕ). le2 l 0) e ∙ h .0, ap (λ (l : List ℕ). le2 l 2) e ∙ h .1)
+
+-- the length of the record
+pub size-is : {s : List ℕ} {f : Formula} → Begins s f → le2 s 0 ≡ size (labelOf f)
+size-is b = first-is b .0
 
 pub kind-is : {s : List ℕ} {f : Formula} → Begins s f → le2 s 2 ≡ formulaKind f
-kind-is {s} {f} b = ap (λ (l : List ℕ). le2 l 2) (b .bytes) ∙ kind-bytes f (b .rest)
+kind-is {s} {f} b = first-is b .1 ∙ kind-said f
 
 -- ---- an atom and a window in bytes
 

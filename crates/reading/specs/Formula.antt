@@ -118,6 +118,14 @@ unfoldable mutual
   encodes none = []
   encodes (more f fs) = encode f ++ encodes fs
 
+-- the record that a formula begins with
+abbrev pub labelOf : Formula → Label
+labelOf (atom c ns) = atomL c ns
+labelOf (not f) = notL
+labelOf (list b fs) = listL b (count fs)
+labelOf (quant b v f) = quantL b v
+labelOf (window v lo hi) = windowL v lo hi
+
 -- ---- the ranges: each number of a record, and the nesting (the outermost record is level 1)
 
 abbrev pub AllM : List ℤ → Type 0

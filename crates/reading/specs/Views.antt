@@ -1,9 +1,12 @@
 -- What the crates above see of the record that a formula begins with: its kind, and the fields of each kind. They read no byte of a record.
-use Prim.Native.Nat.{ℕ}
-use mathlib.Core.List.{List, []}
+use Prim.Native.Nat.{ℕ, _+_}
+use mathlib.Core.Path.{_≡_}
+use mathlib.Core.List.{List, [], _++_}
 use mathlib.Core.Bool.{false}
+use lib.ListN.{length, drop}
 use lib.IntN.{ℤ, pos}
-use Rattle.reading.specs.Formula.{Comparison, less, atmost, equal, Formula, Formulas, atom, not, list, quant, window, none, listNo, quantNo}
+use Rattle.reading.specs.Limits.{treeLevels}
+use Rattle.reading.specs.Formula.{Comparison, less, atmost, equal, Formula, Formulas, atom, not, list, quant, window, none, count, listNo, quantNo, encodes, AllFit}
 use Rattle.reading.specs.declared.Comparison as Code
 use Rattle.reading.specs.declared.Comparison.the-variants.{Less, AtMost, Equal}
 use Rattle.reading.specs.declared.Shape.{Shape}
@@ -99,3 +102,16 @@ binderOf (not f) = noBinder
 binderOf (list b fs) = noBinder
 binderOf (quant b v f) = record { every = b; variable = v }
 binderOf (window v lo hi) = noBinder
+
+-- ---- formulas that are passed over: `left` of them stand in s from `at` on
+
+pub record Follow (s : List ℕ) (at left : ℕ) : Type 0 where
+  pub members : Formulas
+  pub rest : List ℕ
+  pub bytes : drop at s ≡ encodes members ++ rest
+  pub many : left ≡ count members
+  pub fits : AllFit treeLevels members
+
+-- r is where they end, whichever they are
+abbrev pub Passed : List ℕ → ℕ → ℕ → ℕ → Type 0
+Passed s at left r = (fs : Formulas) (u : List ℕ) → drop at s ≡ encodes fs ++ u → left ≡ count fs → AllFit treeLevels fs → r ≡ at + length (encodes fs)

@@ -1,8 +1,12 @@
 // What the record says that a formula begins with: its kind, and the fields of each kind. The crates above see a record by these alone.
 ghost use mathlib.Core.Path.{_≡_};
-ghost use Rattle.reading.specs.Formula.{count, IsList};
+ghost use Prim.Native.Nat.{_<_};
+ghost use lib.ListN.{getD};
+ghost use lib.IntN.{pos};
+ghost use Rattle.reading.specs.Limits.{variables};
+ghost use Rattle.reading.specs.Formula.{count, size, follow, labelOf, IsList};
 ghost use Rattle.reading.specs.Reading.{treeOf, Begins};
-ghost use Rattle.reading.specs.Views.{comparisonCaseNo, shapeOf, IsAtom, IsWindow, IsQuantifier, numbersOf, membersOf, windowOf, binderOf};
+ghost use Rattle.reading.specs.Views.{comparisonCaseNo, shapeOf, IsAtom, IsWindow, IsQuantifier, numbersOf, membersOf, windowOf, binderOf, Follow, Passed};
 use crate::Binder;
 use crate::Comparison;
 use crate::Shape;
@@ -50,6 +54,16 @@ pub fn row_at(s: &[u8]) -> [i64; 9]
     nine(s)
 }
 
+// The coefficient of x in an atom.
+pub fn coefficient_at(s: &[u8], x: usize) -> i64
+    requires { ⌜ Begins (now s) (treeOf (now s)) ⌝ }
+    requires { ⌜ IsAtom (treeOf (now s)) ⌝ }
+    requires { ⌜ x < variables ⌝ }
+    ensures { λ r. ⌜ r ≡ getD (numbersOf (treeOf (now (s .entry)))) x (pos 0) ⌝ }
+{
+    int_at(s, 4 + 4 * x)
+}
+
 // How many members a list has.
 pub fn members_at(s: &[u8]) -> usize
     requires { ⌜ Begins (now s) (treeOf (now s)) ⌝ }
@@ -88,4 +102,41 @@ pub fn binder_at(s: &[u8]) -> Binder
         every: false,
         variable,
     }
+}
+
+// How many bytes the record has.
+pub fn record_bytes(s: &[u8]) -> usize
+    requires { ⌜ Begins (now s) (treeOf (now s)) ⌝ }
+    ensures { λ r. ⌜ r ≡ size (labelOf (treeOf (now (s .entry)))) ⌝ }
+{
+    u16_at(s, 0) as usize
+}
+
+// How many formulas follow it.
+pub fn followers(s: &[u8]) -> usize
+    requires { ⌜ Begins (now s) (treeOf (now s)) ⌝ }
+    ensures { λ r. ⌜ r ≡ follow (labelOf (treeOf (now (s .entry)))) ⌝ }
+{
+    let shape = shape_at(s);
+    match shape {
+        Shape::Atom(_) => 0,
+        Shape::Not => 1,
+        Shape::List(_) => members_at(s),
+        Shape::Quantifier(_) => 1,
+        Shape::Window => 0,
+    }
+}
+
+// Where `left` formulas end that stand from `at` on, record by record.
+pub fn past(s: &[u8], at: usize, left: usize) -> usize
+    requires { ⌜ Follow (now s) at left ⌝ }
+    ensures { λ r. ⌜ Passed (now (s .entry)) at left r ⌝ }
+{
+    let mut p = at;
+    let mut k = left;
+    while k > 0 {
+        k = k - 1 + followers(&s[p..]);
+        p += record_bytes(&s[p..]);
+    }
+    p
 }

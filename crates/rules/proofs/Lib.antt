@@ -2,6 +2,7 @@
 pub mod Starred
 pub mod Limits
 pub mod PushedTerms
+pub mod Tame
 pub mod Stepwise
 pub mod Answers
 pub mod StarredEnds

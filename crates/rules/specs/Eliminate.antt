@@ -86,3 +86,12 @@ unfolding finished eliminated
 eliminate sheet result work =
     cond (ltb (length result) resultBytes || ltb (length work) resultBytes) (refused smallBuffer 0 result work)
     (byReading (length sheet) (reading sheetBytes sheetLevels sheet) (formulaIn sheetLevels sheet) result work)
+
+-- ---- the same in the caller's room, of n bytes: whatever it holds, the answer and both buffers are those of `eliminate`; a short one is a short buffer
+
+abbrev pub roomBytes : ℕ
+roomBytes = 524288
+
+unfoldable pub eliminateIn : ℕ → List ℕ → List ℕ → List ℕ → Result
+unfolding eliminate
+eliminateIn n sheet result work = cond (ltb n roomBytes) (refused smallBuffer 0 result work) (eliminate sheet result work)

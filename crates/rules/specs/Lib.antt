@@ -7,3 +7,5 @@ pub mod Copies
 pub mod Steps
 pub mod Eliminate
 pub mod Test
+pub mod Levels
+pub mod Tame

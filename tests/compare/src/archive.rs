@@ -26,6 +26,7 @@ pub struct Pair(pub u64, pub u64);
 
 extern "C" {
     fn vb_eliminate(sheet: *const u8, n: usize, result: *mut u8, r: usize, work: *mut u8, w: usize) -> Reply;
+    fn vb_eliminate_in(sheet: *const u8, n: usize, result: *mut u8, r: usize, work: *mut u8, w: usize, room: *mut u8, m: usize) -> Reply;
     fn vb_test(sheet: *const u8, n: usize, p0: i64, p1: i64, p2: i64, p3: i64, p4: i64, p5: i64, p6: i64, p7: i64, q: i64) -> Tested;
     fn vb_read(sheet: *const u8, n: usize) -> Pair;
     fn vb_look(sheet: *const u8, n: usize) -> Pair;
@@ -68,6 +69,12 @@ impl Guarded {
 
 pub fn eliminate(sheet: &[u8], result: &mut [u8], work: &mut [u8]) -> Reply {
     unsafe { vb_eliminate(sheet.as_ptr(), sheet.len(), result.as_mut_ptr(), result.len(), work.as_mut_ptr(), work.len()) }
+}
+
+pub fn eliminate_in(sheet: &[u8], result: &mut [u8], work: &mut [u8], room: &mut [u8]) -> Reply {
+    unsafe {
+        vb_eliminate_in(sheet.as_ptr(), sheet.len(), result.as_mut_ptr(), result.len(), work.as_mut_ptr(), work.len(), room.as_mut_ptr(), room.len())
+    }
 }
 
 pub fn test(sheet: &[u8], w: [i64; 9]) -> Tested {

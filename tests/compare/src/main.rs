@@ -11,16 +11,18 @@ use archive::Guarded;
 use sheets::Random;
 
 const BUFFER: usize = 65_536;
+const ROOM: usize = 524_288;
 
 struct Room {
     sheet: Guarded,
     result: Guarded,
     work: Guarded,
+    copies: Guarded,
 }
 
 impl Room {
     fn new() -> Room {
-        Room { sheet: Guarded::new(70_000), result: Guarded::new(75_000), work: Guarded::new(75_000) }
+        Room { sheet: Guarded::new(70_000), result: Guarded::new(75_000), work: Guarded::new(75_000), copies: Guarded::new(ROOM + 5000) }
     }
 }
 
@@ -41,11 +43,27 @@ fn length(r: &mut Random) -> usize {
     }
 }
 
+/// A reply of the archive and its buffers, against the second program's.
+fn same(sheet: &[u8], room: &mut Room, mine: archive::Reply, expected: archive::Reply, result: &[u8], work: &[u8]) {
+    if mine != expected {
+        println!("archive {mine:?}, second {expected:?}");
+        differ(sheet, "the reply");
+    }
+    if room.result.slice(result.len()) != result {
+        differ(sheet, "the result buffer");
+    }
+    if room.work.slice(work.len()) != work {
+        differ(sheet, "the work buffer");
+    }
+    if room.sheet.slice(sheet.len()) != sheet {
+        differ(sheet, "the sheet itself");
+    }
+}
+
 fn eliminations(r: &mut Random, room: &mut Room, sheet: &[u8]) -> (u64, Vec<u8>) {
     let fill = r.next() as u8;
-    let mut result = vec![fill; length(r)];
-    let mut work = vec![!fill; length(r)];
-    let mine = archive::eliminate(room.sheet.filled(sheet), room.result.filled(&result), room.work.filled(&work));
+    let before = (vec![fill; length(r)], vec![!fill; length(r)]);
+    let (mut result, mut work) = before.clone();
     let other = second::eliminate(sheet, &mut result, &mut work);
     let expected = archive::Reply {
         number: other.number.into(),
@@ -53,18 +71,22 @@ fn eliminations(r: &mut Random, room: &mut Room, sheet: &[u8]) -> (u64, Vec<u8>)
         place: other.place as u64,
         length: other.length as u64,
     };
-    if mine != expected {
-        println!("archive {mine:?}, second {expected:?}");
-        differ(sheet, "the reply");
+    let mine = archive::eliminate(room.sheet.filled(sheet), room.result.filled(&before.0), room.work.filled(&before.1));
+    same(sheet, room, mine, expected, &result, &work);
+
+    // the same in a room that holds what the last call left there, or too short a one
+    let extra = if r.once_in(10) { r.below(5000) as usize } else { 0 };
+    let copies = room.copies.slice(if r.once_in(40) { ROOM - 1 - r.below(3) as usize * 9000 } else { ROOM + extra });
+    let (rest, short) = (copies.get(ROOM..).map(<[u8]>::to_vec), copies.len() < ROOM);
+    let copies: &mut [u8] = unsafe { std::slice::from_raw_parts_mut(copies.as_mut_ptr(), copies.len()) };
+    let mine = archive::eliminate_in(room.sheet.filled(sheet), room.result.filled(&before.0), room.work.filled(&before.1), copies);
+    if short {
+        same(sheet, room, mine, archive::Reply { number: 1, verdict: 3, place: 0, length: 0 }, &before.0, &before.1);
+    } else {
+        same(sheet, room, mine, expected, &result, &work);
     }
-    if room.result.slice(result.len()) != &result[..] {
-        differ(sheet, "the result buffer");
-    }
-    if room.work.slice(work.len()) != &work[..] {
-        differ(sheet, "the work buffer");
-    }
-    if room.sheet.slice(sheet.len()) != sheet {
-        differ(sheet, "the sheet itself");
+    if copies.get(ROOM..).map(<[u8]>::to_vec) != rest {
+        differ(sheet, "the room past its first 524,288 bytes");
     }
     result.truncate(other.length);
     (expected.number, result)
@@ -138,8 +160,10 @@ fn storm(calls: u64, seed: u64) {
         archive::test(bytes, std::array::from_fn(|_| r.next() as i64 >> r.below(63)));
         let length = if r.once_in(50) { BUFFER } else { r.below(BUFFER as u64) as usize };
         archive::eliminate(bytes, room.result.slice(length), room.work.slice(length));
+        let copies = if r.once_in(2) { ROOM } else { r.below(ROOM as u64) as usize };
+        archive::eliminate_in(bytes, room.result.slice(length), room.work.slice(length), room.copies.slice(copies));
         assert!(room.sheet.slice(sheet.len()) == &sheet[..], "a sheet was written to");
-        done += 4;
+        done += 5;
     }
     println!("{done} calls on random bytes, each with a reply");
 }

@@ -1,24 +1,40 @@
--- An atom or a WINDOW, by the view of its record: its numbers are in the range that the arithmetic asks for, and what is pushed of it. Assumes nothing.
-use mathlib.Core.Path.{_≡_, refl, sym, _∙_, ap}
-use mathlib.Core.Bool.{Bool}
+-- An atom or a WINDOW, by the view of its record: its numbers are in the range that the arithmetic asks for, what is pushed of it, and when an atom comes out as
+-- it is. Assumes nothing.
+use mathlib.Core.Path.{_≡_, refl, sym, _∙_, ap, subst}
+use mathlib.Core.Bool.{Bool, true, false, cond}
 use mathlib.Core.List.{List, [], _∷_}
-use Prim.Native.Nat.{ℕ, _≤_, _<_}
+use Prim.Native.Nat.{ℕ, _+_, _/_, _≤_, _<_}
 use native.Mathlib.Omega.{arith}
+use lib.Dec.{eqb}
+use lib.ListN.{length, take, getD}
+use lib.Seq.{take-at}
 use lib.IntN.{ℤ}
+use borrow.Author.Tests.{eqb-true}
 use Rattle.reading.specs.Limits.{M, variables}
-use Rattle.reading.specs.Formula.{Comparison, Formula, atom, not, list, quant, window}
-use Rattle.reading.specs.Reading.{Begins}
+use Rattle.reading.specs.Formula.{Comparison, Formula, atom, not, list, quant, window, encode}
+use Rattle.reading.specs.Reading.{treeOf, Begins}
 use Rattle.reading.specs.Views.{comparisonCase, comparisonCaseNo, shapeOf, IsAtom, IsWindow, numbersOf, windowOf}
 use Rattle.reading.specs.declared.Comparison as Code
 use Rattle.reading.specs.declared.Comparison.the-variants.{Less, AtMost, Equal}
 use Rattle.reading.specs.declared.Shape.the-variants as Shape
 use Rattle.reading.specs.declared.Window.{Window}
 use Rattle.reading.proofs.Viewing.{case-number, shape-atom}
-use Rattle.exact.specs.Numbers.{Within, Each, single}
-use Rattle.exact.specs.Atoms.{comparisonOf}
-use Rattle.exact.proofs.Rows.{allM-each, each-zeros, each-set}
+use Rattle.reading.proofs.Walking.{atom-is}
+use Rattle.exact.specs.Numbers.{Within, Each, single, at}
+use Rattle.exact.specs.Atoms.{Came, new, atomAt, fitting, noVariable, comparisonOf, spotOf}
+use Rattle.exact.specs.Divisor.{gcds}
+use Rattle.exact.specs.declared.Point.{Point}
+use Rattle.exact.proofs.Rows.{allM-each, each-all, each-zeros, each-set, one-reduced}
+use Rattle.exact.proofs.Atoms.{settled-new, at-without}
 use Rattle.rules.specs.Pushing.{pushAtom, pushWindow, push}
-use Rattle.elimination.proofs.copying.Settling.{comparison-back}
+use Rattle.rules.specs.Copies.{atomBy, copy, fits}
+use Rattle.elimination.specs.Writing.{lay}
+use Rattle.elimination.specs.Listing.{kept, big, comeOf, Wrote}
+use Rattle.elimination.specs.Copying.{came, Asks}
+use Rattle.elimination.specs.Marking.{Unchanged, Marked}
+use Rattle.elimination.specs.declared.Copied.the-variants.{Kept}
+use Rattle.elimination.specs.declared.Way.{Way}
+use Rattle.elimination.proofs.copying.Settling.{comparison-back, wrote-kept}
 
 -- ---- the range
 
@@ -71,3 +87,41 @@ window-pushed (not f) i neg = absurd i
 window-pushed (list b fs) i neg = absurd i
 window-pushed (quant b v f) i neg = absurd i
 window-pushed (window v lo hi) i neg = refl
+
+-- ---- an atom that comes out as it is
+
+-- by its mark; `unchanged` of MarkLaws says it by its numbers
+pub marked-atom : (x : ℕ) (ms : List ℕ) (n : ℕ) (f : Formula) → IsAtom f → Marked x ms n f → getD ms (n / 40) 0 ≡ 1 → Unchanged x f
+marked-atom x ms n (atom c ns) i m e = m e
+marked-atom x ms n (not f) i m e = absurd i
+marked-atom x ms n (list b fs) i m e = absurd i
+marked-atom x ms n (quant b v f) i m e = absurd i
+marked-atom x ms n (window v lo hi) i m e = absurd i
+
+plain-said : (v g : Bool) → cond v false g ≡ true → (v ≡ false) × (g ≡ true)
+plain-said true g e = let y : _≡_ {A = ℕ} 0 1 = cc in absurd (omega arith)
+plain-said false g e = (refl, e)
+
+plain-came : (q : Point) (f : Formula) → Each M (numbersOf f) → Unchanged (q .x) f → came (spotOf q) (push false f) ≡ kept f
+unfolding came push fits copy
+plain-came q (atom c ns) m u =
+    let a = plain-said (noVariable ns) (eqb (gcds ns) 1) (u .1) in
+    let e : atomAt (spotOf q) c ns ≡ new ns = at-without (q .kind) (q .x) (q .n) c ns (u .0) ∙ settled-new c ns (a .0) ∙ ap new (one-reduced ns (eqb-true (gcds ns) 1 (a .1))) in
+    ap (λ (y : Came). cond (fitting y) (comeOf (atomBy y c)) big) e ∙ ap (λ (b : Bool). cond b (kept (atom c ns)) big) (each-all m)
+plain-came q (not f) m u = absurd u
+plain-came q (list b fs) m u = absurd u
+plain-came q (quant b v f) m u = absurd u
+plain-came q (window v lo hi) m u = absurd u
+
+-- its own 40 bytes are written
+pub plain-wrote : {s : List ℕ} {neg : Bool} {way : Way} {q : Point} {to : ℕ} {ms : List ℕ} (o o′ : List ℕ) → Asks s neg way q to (length o) ms → IsAtom (treeOf s)
+    → (neg ≡ false) × Unchanged (q .x) (treeOf s) → o′ ≡ lay to (take 40 s) o
+    → Wrote (came (spotOf q) (push neg (treeOf s))) (length (encode (treeOf s))) to o o′ (Kept 40 (to + 40))
+plain-wrote {s} {neg} {way} {q} {to} o o′ a i u p =
+    let f = treeOf s in
+    let b = a .begins in
+    let n = atom-is f b i .long in
+    let c = ap (λ (y : Bool). came (spotOf q) (push y f)) (u .0) ∙ plain-came q f (numbers-small f b i) (u .1) in
+    let e : take 40 s ≡ encode f = ap (take 40) (b .bytes) ∙ take-at (encode f) (b .rest) 40 n in
+    subst (λ (k : ℕ). Wrote (came (spotOf q) (push neg f)) k to o o′ (Kept 40 (to + 40))) (sym n)
+    (wrote-kept f 40 to 40 o o′ c n (omega (arith, a .room, n)) (p ∙ ap (λ (x : List ℕ). lay to x o) e))

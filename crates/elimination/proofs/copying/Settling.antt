@@ -1,6 +1,7 @@
 -- How a pushed formula comes out at a spot, by its shape: an atom by what the arithmetic answers (`came-atom`), a list by the tally of its members (`came-list`);
 -- and what is written of it. Assumes nothing.
 use mathlib.Core.Path.{_≡_, refl, sym, _∙_, ap, ap₂, subst}
+use mathlib.Core.Bool as Bool
 use mathlib.Core.Bool.{Bool, true, false, cond}
 use mathlib.Core.List.{List, [], _∷_, _++_}
 use Prim.Native.Nat.{ℕ, zero, suc, _+_, _≤_}
@@ -76,6 +77,10 @@ unfolding came fits copy
 ruled-members all q none = ruled-none all
 ruled-members all q (more p ps) = ruled-more all (fits q p) (copy q p) (cameAll q ps) (fitAll q ps) (copyAll q ps) (ruled-members all q ps)
 
+-- a list that a member has decided is so at the end, where the numbers of the other members fit
+pub came-early : (all : Bool) (q : Spot) (gs ps : Formulas) → fitAll q ps ≡ true → close all (tally all (going true gs) (cameAll q ps)) ≡ truth (Bool.not all)
+came-early all q gs ps e = ap (close all) (subst (λ (b : Bool). Ruled all (cameAll q ps) b (copyAll q ps)) e (ruled-members all q ps) true gs)
+
 pub came-list : (q : Spot) (all : Bool) (ps : Formulas) → came q (list all ps) ≡ close all (tally all (going false none) (cameAll q ps))
 unfolding came fits copy
 came-list q all ps = sym (ruled-close all (cameAll q ps) (fitAll q ps) (copyAll q ps) (ruled-members all q ps))
@@ -86,8 +91,11 @@ came-list q all ps = sym (ruled-close all (cameAll q ps) (fitAll q ps) (copyAll 
 pub retold : (q : Spot) {p g : Formula} {m n to : ℕ} {o₀ o : List ℕ} {r : Copied} → p ≡ g → m ≡ n → Wrote (came q p) m to o₀ o r → Wrote (came q g) n to o₀ o r
 retold q {p} {g} {m} {n} {to} {o₀} {o} {r} e f w = subst (λ (k : ℕ). Wrote (came q g) k to o₀ o r) f (subst (λ (y : Formula). Wrote (came q y) m to o₀ o r) e w)
 
+pub wrote-decided : {c : Come} (v : Bool) (used to : ℕ) (o₀ o : List ℕ) → c ≡ truth v → take to o ≡ take to o₀ → Wrote c used to o₀ o (Decided used v)
+wrote-decided v used to o₀ o e f = subst (λ (c : Come). Wrote c used to o₀ o (Decided used v)) (sym e) (record { answer = refl; bytes = nothing to o₀ o f })
+
 pub wrote-truth : {c : Come} (v : Bool) (used to : ℕ) (o : List ℕ) → c ≡ truth v → Wrote c used to o o (Decided used v)
-wrote-truth v used to o e = subst (λ (c : Come). Wrote c used to o o (Decided used v)) (sym e) (record { answer = refl; bytes = nothing to o o refl })
+wrote-truth v used to o e = wrote-decided v used to o o e refl
 
 pub wrote-big : {c : Come} (used to : ℕ) (o₀ o : List ℕ) → c ≡ big → take to o ≡ take to o₀ → Wrote c used to o₀ o Big
 wrote-big used to o₀ o e f = subst (λ (c : Come). Wrote c used to o₀ o Big) (sym e) (record { answer = refl; bytes = nothing to o₀ o f })
@@ -96,10 +104,12 @@ atom-is : (k : ℕ) (ns : List ℤ) → 1 ≤ k → k ≤ 3 → atomBytes k ns �
 unfolding atomBytes encode recordBytes fieldBytes
 atom-is k ns h g = sym (ap (λ (j : ℕ). bytes2 40 ++ bytes2 j ++ intBytes ns) (kind-back k h g))
 
+pub wrote-kept : {c : Come} (g : Formula) (used to n : ℕ) (o o′ : List ℕ) → c ≡ kept g → length (encode g) ≡ n → to + n ≤ length o → o′ ≡ lay to (encode g) o → Wrote c used to o o′ (Kept used (to + n))
+wrote-kept g used to n o o′ e z w p =
+    subst (λ (c : Come). Wrote c used to o o′ (Kept used (to + n))) (sym e)
+    (record { answer = ap (λ (m : ℕ). Kept used (to + m)) (sym z); bytes = ap (take (to + length (encode g))) p ∙ lay-take to (encode g) o (omega arith) })
+
 pub wrote-atom : {c : Come} (k : ℕ) (ns : List ℤ) (used to : ℕ) (o o′ : List ℕ) → c ≡ kept (atom (comparisonOf k) ns) → 1 ≤ k → k ≤ 3 → length ns ≡ 9 → to + 40 ≤ length o
     → o′ ≡ lay to (atomBytes k ns) o → Wrote c used to o o′ (Kept used (to + 40))
 wrote-atom k ns used to o o′ e h g n w p =
-    let b = encode (atom (comparisonOf k) ns) in
-    let z : length b ≡ 40 = atom-long (comparisonOf k) ns n in
-    let t : take (to + length b) o′ ≡ take to o ++ b = ap (take (to + length b)) (p ∙ ap (λ (x : List ℕ). lay to x o) (atom-is k ns h g)) ∙ lay-take to b o (omega arith) in
-    subst (λ (c : Come). Wrote c used to o o′ (Kept used (to + 40))) (sym e) (record { answer = ap (λ (m : ℕ). Kept used (to + m)) (sym z); bytes = t })
+    wrote-kept (atom (comparisonOf k) ns) used to 40 o o′ e (atom-long (comparisonOf k) ns n) w (p ∙ ap (λ (x : List ℕ). lay to x o) (atom-is k ns h g))

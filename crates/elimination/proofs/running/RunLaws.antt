@@ -1,13 +1,13 @@
 -- 01, 'One step': the loop over all quantifiers. Before each turn the run of the formula in the buffer is the run of the formula at the start; a
--- turn is one step, and a step that is refused, or no quantifier left, ends it. Assumes nothing.
-use Prim.Native.Nat.{ℕ, zero, suc, _-_, _≤_, _<_}
+-- turn is one step; a step that is refused or wants room, or no quantifier left, ends it. Assumes nothing.
+use Prim.Native.Nat.{ℕ, zero, suc, _≤_, _<_}
 use mathlib.Core.Path.{_≡_, refl, sym, _∙_, ap, ap₂, subst}
 use mathlib.Core.Bool.{Bool, true, false}
 use mathlib.Core.List.{List}
 use native.Mathlib.Omega.{arith}
-use lib.ListN.{length, take, drop}
+use lib.ListN.{length, take}
 use lib.Seq.{length-take-le}
-use Rattle.reading.specs.Limits.{sheetLevels, resultBytes, resultLevels}
+use Rattle.reading.specs.Limits.{resultBytes, resultLevels}
 use Rattle.reading.specs.Formula.{Formula, encode, Fits}
 use Rattle.reading.specs.Reading.{Exactly}
 use Rattle.reading.specs.Quantifiers.{Quantifier, nothing, at, foundOf, lastIn}
@@ -16,12 +16,14 @@ use Rattle.reading.specs.declared.Found.the-variants.{At, Nothing}
 use Rattle.reading.proofs.Places.{nothing-free}
 use Rattle.reading.proofs.Trees.{tree-is, begins, exactly-tree}
 use Rattle.rules.specs.Steps.{quantifiers, step, refusal, Run, ran, halted, onward, afterStep, run, eliminated}
-use Rattle.elimination.specs.Stepping.{held, Stands, refusalAt, steppedOf, Steps}
-use Rattle.elimination.specs.Running.{Runs, isAt, offsetOf, numberOf, lengthOf}
+use Rattle.rules.specs.Eliminate.{roomBytes}
+use Rattle.elimination.specs.Stepping.{held, Stands, refusalAt, steppedOf, isShort, Steps}
+use Rattle.elimination.specs.Running.{Reached, RanTo, isAt, offsetOf}
 use Rattle.elimination.specs.declared.Stepped.{Stepped}
-use Rattle.elimination.specs.declared.Ran.{Ran}
+use Rattle.elimination.specs.declared.Stepped.the-variants as Stepped
 use Rattle.elimination.specs.declared.Ran.the-variants as Ran
-use Rattle.rules.proofs.Limits.Levels.{Wide, fits-wide, wide-fits}
+use Rattle.rules.specs.Levels.{Wide}
+use Rattle.rules.proofs.Limits.Levels.{wide-fits}
 use Rattle.rules.proofs.Limits.Copies.{not-refused}
 use Rattle.rules.proofs.Stepwise.Around.{free-zero}
 use Rattle.rules.proofs.Stepwise.OneStep.{step-wide, step-fewer}
@@ -40,14 +42,14 @@ held-long n b s = let few = s .few in let long = s .long in sym (ap length (s .e
 
 -- ---- before a turn
 
+-- the formula in the buffer is on the way of f, and what was found is its last quantifier
 pub record RunTurn (f : Formula) (n : ℕ) (cur : List ℕ) (found : Found) : Type 0 where
-  pub stands : Stands n cur
-  pub wide : Wide resultLevels (held n cur)
-  pub same : eliminated f ≡ eliminated (held n cur)
+  pub reached : Reached f n cur
   pub last : found ≡ foundOf (lastIn (held n cur))
 
-pub run-begins : (n : ℕ) (cur : List ℕ) (found : Found) → Stands n cur → Fits sheetLevels (held n cur) → found ≡ foundOf (lastIn (held n cur)) → RunTurn (held n cur) n cur found
-run-begins n cur found s w e = record { stands = s; wide = fits-wide (held n cur) sheetLevels w; same = refl; last = e }
+-- the formula at the start
+pub run-begins : (n : ℕ) (cur : List ℕ) → Stands n cur → Wide resultLevels (held n cur) → Reached (held n cur) n cur
+run-begins n cur s w = record { stands = s; wide = w; same = refl }
 
 at-is : (x : Found) → isAt x ≡ true → x ≡ At (offsetOf x)
 at-is (At o) h = refl
@@ -58,77 +60,75 @@ run-asks {f} {n} {cur} {found} t h = sym (t .last) ∙ at-is found h
 
 -- ---- a turn
 
-number-is : (e n : ℕ) → numberOf (steppedOf e n) ≡ e
-number-is zero n = refl
-number-is (suc e) n = refl
+fine-is : (e l m : ℕ) → Stepped.Fine m ≡ steppedOf e l → (e ≡ 0) × (m ≡ l)
+fine-is zero l m h = (refl, cc)
+fine-is (suc e) l m h = let z : _≡_ {A = ℕ} 0 1 = cc in absurd (omega arith)
 
--- the quantifier that a step was for, and what the step's answer says of it
-record Went (g : Formula) (r : Stepped) : Type 0 where
+refused-is : (e l m : ℕ) → Stepped.Refused m ≡ steppedOf e l → (n : ℕ) × (e ≡ suc n) × (m ≡ suc n)
+refused-is zero l m h = let z : _≡_ {A = ℕ} 0 1 = cc in absurd (omega arith)
+refused-is (suc e) l m h = (e, refl, cc)
+
+-- the quantifier that a step is for
+record Last (g : Formula) : Type 0 where
   place : ℕ
   every : Bool
   variable : ℕ
   body : Formula
   last : lastIn g ≡ at place every variable body
-  number : numberOf r ≡ refusal variable body (step g)
 
-went : (g : Formula) (cur cur′ work work′ : List ℕ) (r : Stepped) → isAt (foundOf (lastIn g)) ≡ true → Steps g cur cur′ work work′ r → Went g r
-went g cur cur′ work work′ r h s = go (lastIn g) refl
+last-of : (g : Formula) → isAt (foundOf (lastIn g)) ≡ true → Last g
+last-of g h = go (lastIn g) refl
   where
-    go : (q : Quantifier) → lastIn g ≡ q → Went g r
+    go : (q : Quantifier) → lastIn g ≡ q → Last g
     go nothing e = let a : false ≡ true = sym (ap (λ (q : Quantifier). isAt (foundOf q)) e) ∙ h in let z : _≡_ {A = ℕ} 0 1 = cc in absurd (omega arith)
-    go (at p b v k) e = record {
-      place = p;
-      every = b;
-      variable = v;
-      body = k;
-      last = e;
-      number = ap numberOf (s .answer) ∙ number-is (refusalAt (lastIn g) (step g)) (length (encode (step g))) ∙ ap (λ (q : Quantifier). refusalAt q (step g)) e;
-    }
+    go (at p b v k) e = record { place = p; every = b; variable = v; body = k; last = e }
 
 -- what a step that is not refused leaves in the buffer
 pub record Next (f : Formula) (before n : ℕ) (cur : List ℕ) : Type 0 where
-  pub stands : Stands n cur
-  pub wide : Wide resultLevels (held n cur)
-  pub same : eliminated f ≡ eliminated (held n cur)
+  pub reached : Reached f n cur
   pub fewer : before ≡ suc (quantifiers (held n cur))
 
-module _ {f : Formula} {n : ℕ} {cur : List ℕ} {found : Found} (cur′ work work′ : List ℕ) (r : Stepped) (t : RunTurn f n cur found) (h : isAt found ≡ true) (s : Steps (held n cur) cur cur′ work work′ r) where
-  here : Went (held n cur) r
-  here = went (held n cur) cur cur′ work work′ r (sym (ap isAt (t .last)) ∙ h) s
+module _ {f : Formula} {n : ℕ} {cur : List ℕ} {found : Found} {room : ℕ} {cur′ work work′ : List ℕ} {r : Stepped} (t : RunTurn f n cur found) (h : isAt found ≡ true) (s : Steps (held n cur) room cur cur′ work work′ r) where
+  here : Last (held n cur)
+  here = last-of (held n cur) (sym (ap isAt (t .last)) ∙ h)
 
-  pub run-next : numberOf r ≡ 0 → length cur′ ≡ length cur → Next f (quantifiers (held n cur)) (lengthOf r) cur′
-  run-next z l =
+  number : refusalAt (lastIn (held n cur)) (step (held n cur)) ≡ refusal (here .variable) (here .body) (step (held n cur))
+  number = ap (λ (q : Quantifier). refusalAt q (step (held n cur))) (here .last)
+
+  answer : (q : Stepped) → r ≡ q → isShort q ≡ false → q ≡ steppedOf (refusalAt (lastIn (held n cur)) (step (held n cur))) (length (encode (step (held n cur))))
+  answer q e k = sym e ∙ s .tried .answer (ap isShort e ∙ k)
+
+  pub run-next : (m : ℕ) → r ≡ Stepped.Fine m → length cur′ ≡ length cur → Next f (quantifiers (held n cur)) m cur′
+  run-next m e l =
       let g = held n cur in
       let w = here in
-      let x : refusal (w .variable) (w .body) (step g) ≡ 0 = sym (w .number) ∙ z in
-      let y : refusalAt (lastIn g) (step g) ≡ 0 = ap (λ (q : Quantifier). refusalAt q (step g)) (w .last) ∙ x in
-      let m : lengthOf r ≡ length (encode (step g)) = ap lengthOf (s .answer ∙ ap (λ (e : ℕ). steppedOf e (length (encode (step g)))) y) in
-      let wide = step-wide resultLevels g (w .place) (w .every) (w .variable) (w .body) (w .last) x (t .wide) in
+      let a = fine-is (refusalAt (lastIn g) (step g)) (length (encode (step g))) m (answer (Stepped.Fine m) e refl) in
+      let x : refusal (w .variable) (w .body) (step g) ≡ 0 = sym number ∙ a .0 in
+      let wide = step-wide resultLevels g (w .place) (w .every) (w .variable) (w .body) (w .last) x (t .reached .wide) in
       let fits = wide-fits (step g) resultLevels wide in
-      let bytes = s .bytes y in
-      let long = t .stands .long in
+      let bytes = s .tried .bytes (ap isShort e) (a .0) in
+      let long = t .reached .stands .long in
       let is = held-is (length (encode (step g))) cur′ (step g) fits bytes in
-      subst (λ (k : ℕ). Next f (quantifiers g) k cur′) (sym m)
+      subst (λ (k : ℕ). Next f (quantifiers g) k cur′) (sym (a .1))
       (record {
-        stands = stands-as (length (encode (step g))) cur′ (step g) fits bytes (not-refused (w .variable) (w .body) (step g) x .short) (omega arith);
-        wide = subst (Wide resultLevels) (sym is) wide;
-        same = t .same ∙ run-on g (w .place) (w .every) (w .variable) (w .body) (w .last) x ∙ ap eliminated (sym is);
+        reached = record {
+          stands = stands-as (length (encode (step g))) cur′ (step g) fits bytes (not-refused (w .variable) (w .body) (step g) x .short) (omega arith);
+          wide = subst (Wide resultLevels) (sym is) wide;
+          same = t .reached .same ∙ run-on g (w .place) (w .every) (w .variable) (w .body) (w .last) x ∙ ap eliminated (sym is);
+        };
         fewer = step-fewer g (w .place) (w .every) (w .variable) (w .body) (w .last) ∙ ap (λ (k : Formula). suc (quantifiers k)) (sym is);
       })
 
-  pub run-stopped : (cur₀ work₀ : List ℕ) → 0 < numberOf r → drop resultBytes cur ≡ drop resultBytes cur₀ → drop resultBytes work ≡ drop resultBytes work₀
-      → Runs (eliminated f) cur₀ cur′ work₀ work′ (Ran.Refused (numberOf r) (offsetOf found))
-  run-stopped cur₀ work₀ lt c d =
+  pub run-stopped : (m o : ℕ) → r ≡ Stepped.Refused m → o ≡ offsetOf found → eliminated f ≡ halted m o
+  run-stopped m o e p =
+      let g = held n cur in
       let w = here in
-      let m : numberOf r ≡ suc (numberOf r - 1) = omega arith in
-      let e = t .same ∙ run-stops (held n cur) (w .place) (w .every) (w .variable) (w .body) (numberOf r - 1) (w .last) (sym (w .number) ∙ m) in
-      subst (λ (o : Run). Runs o cur₀ cur′ work₀ work′ (Ran.Refused (numberOf r) (offsetOf found))) (sym e)
-      (record {
-        answer = ap₂ Ran.Refused m (ap offsetOf (t .last ∙ ap foundOf (w .last)));
-        bytes = tt;
-        cur-rest = s .cur-rest ∙ c;
-        work-rest = s .work-rest ∙ d;
-      })
+      let a = refused-is (refusalAt (lastIn g) (step g)) (length (encode (step g))) m (answer (Stepped.Refused m) e refl) in
+      t .reached .same ∙ run-stops g (w .place) (w .every) (w .variable) (w .body) (a .0) (w .last) (sym number ∙ a .1)
+      ∙ ap₂ halted (sym (a .2)) (sym (p ∙ ap offsetOf (t .last ∙ ap foundOf (w .last))))
+
+  pub run-wants : r ≡ Stepped.Short → Reached f n cur′ × (room < roomBytes)
+  run-wants e = (subst (Reached f n) (sym (s .tried .again (ap isShort e))) (t .reached), s .roomy (ap isShort e))
 
 -- ---- after the last turn
 
@@ -136,14 +136,10 @@ none-left : (q : Quantifier) → isAt (foundOf q) ≡ false → q ≡ nothing
 none-left nothing h = refl
 none-left (at p b v k) h = let z : _≡_ {A = ℕ} 0 1 = cc in absurd (omega arith)
 
-pub run-finishes : {f : Formula} {n : ℕ} {cur : List ℕ} {found : Found} (cur₀ work₀ work : List ℕ) → RunTurn f n cur found → isAt found ≡ false
-    → drop resultBytes cur ≡ drop resultBytes cur₀ → drop resultBytes work ≡ drop resultBytes work₀ → Runs (eliminated f) cur₀ cur work₀ work (Ran.Fine n)
-run-finishes {f} {n} {cur} {found} cur₀ work₀ work t h c d =
+pub run-finishes : {f : Formula} {n : ℕ} {cur : List ℕ} {found : Found} (room : ℕ) → RunTurn f n cur found → isAt found ≡ false → RanTo f room cur (Ran.Fine n)
+run-finishes {f} {n} {cur} {found} room t h =
     let g = held n cur in
-    let e = t .same ∙ run-done g (none-left (lastIn g) (sym (ap isAt (t .last)) ∙ h)) in
-    let l = held-long n cur (t .stands) in
-    subst (λ (o : Run). Runs o cur₀ cur work₀ work (Ran.Fine n)) (sym e)
-    (record { answer = ap Ran.Fine (sym l); bytes = ap (λ (k : ℕ). take k cur) l ∙ t .stands .exactly .bytes; cur-rest = c; work-rest = d })
+    (g, t .reached .same ∙ run-done g (none-left (lastIn g) (sym (ap isAt (t .last)) ∙ h)), sym (held-long n cur (t .reached .stands)), t .reached .stands .exactly .bytes)
 
 -- ---- what a run ends in is not too long
 

@@ -1,6 +1,6 @@
 -- The copies of a body at all points: the code's tally of them is 01's list of the copies under the list rule, and it is over exactly where a number
--- does not fit (`tally-is`). Then what stands in the output once that list is closed, and which answer comes before its bytes are counted. Assumes nothing.
-use mathlib.Core.Path.{_≡_, refl, sym, _∙_, ap, ap₂, subst}
+-- does not fit (`tally-is`). Then what stands in the output once that list is closed, and what gathering found. Assumes nothing.
+use mathlib.Core.Path.{_≡_, refl, sym, _∙_, ap, subst}
 use mathlib.Core.Bool as Bool
 use mathlib.Core.Bool.{Bool, true, false, _&&_, cond}
 use mathlib.Core.List.{List, [], _∷_}
@@ -9,7 +9,7 @@ use native.Mathlib.Omega.{arith}
 use lib.Dec.{leb}
 use lib.IntN.{ℤ}
 use lib.ListN.{length, take, length-append}
-use borrow.Author.Tests.{leb-true, leb-false, lt-ltb, le-ltb}
+use borrow.Author.Tests.{leb-true, leb-false}
 use Rattle.reading.specs.Limits.{mostTerms, resultBytes}
 use Rattle.reading.specs.Formula.{Formula, Formulas, atom, not, list, quant, window, none, more, count, encode, encodes, recordBytes, fieldBytes}
 use Rattle.exact.specs.Atoms.{Spot}
@@ -22,8 +22,8 @@ use Rattle.elimination.specs.Writing.{lay, listBytes}
 use Rattle.elimination.specs.Listing.{Come, truth, kept, big, comeOf, Tally, over, going, tally, closeOf, bytesOf, bigOf, Wrote, Closes}
 use Rattle.elimination.specs.Copying.{came}
 use Rattle.elimination.specs.Gathering.{rowsOf, Collected}
-use Rattle.elimination.specs.Trying.{Live, Lists, tryAll}
-use Rattle.elimination.specs.Stepping.{formulaFor, Put, Closable, Replaces, early}
+use Rattle.elimination.specs.Trying.{Stays, Lists, tryAll}
+use Rattle.elimination.specs.Stepping.{formulaFor, Put, Closable, Replaces}
 use Rattle.elimination.specs.declared.Copied.{Copied}
 use Rattle.elimination.specs.declared.Copied.the-variants.{Decided, Kept, Big}
 use Rattle.elimination.specs.declared.Copies.{Copies}
@@ -62,7 +62,7 @@ come-back (window v lo hi) = refl
 -- ---- what is known of a list of copies
 
 over-told : (b : Bool) (all d : Bool) (s : Formulas) (c : Copies) (o₀ o : List ℕ) → Lists all (cond b (going d s) over) c o₀ o → c .big ≡ true → b ≡ false
-over-told true all d s c o₀ o l e = let a : c .big ≡ false = l .0 in let z : _≡_ {A = ℕ} 0 1 = cc in absurd (omega arith)
+over-told true all d s c o₀ o l e = let a : c .big ≡ false = l .small in let z : _≡_ {A = ℕ} 0 1 = cc in absurd (omega arith)
 over-told false all d s c o₀ o l e = refl
 
 going-told : (b : Bool) (all d : Bool) (s : Formulas) (c : Copies) (o₀ o : List ℕ) → Lists all (cond b (going d s) over) c o₀ o → c .big ≡ false → (b ≡ true) × Lists all (going d s) c o₀ o
@@ -74,10 +74,10 @@ unfolding encodes
 four-each none = omega arith
 four-each (more g gs) = omega (arith, four-each gs, four-long g, length-append (encode g) (encodes gs))
 
-closable : (all : Bool) (gs : Formulas) (c : Copies) (o₀ o : List ℕ) → Live all gs c o₀ o → 6 ≤ length o → Closable c (length o)
-closable all gs c o₀ o l h =
+closable : (all x : Bool) (gs : Formulas) (c : Copies) (o₀ o : List ℕ) → Stays all x gs c o₀ o → 6 ≤ length o → Closable c (length o)
+closable all x gs c o₀ o l h =
     record {
-      space = λ e. let a = l .written e in record { low = omega (arith, a .from, a .until); high = a .room; few = omega (arith, a .many, a .until, l .end, four-each gs) };
+      space = λ f e. let a = l .live (sym (l .fixed) ∙ f) .written e in record { low = omega (arith, a .from, a .until); high = a .room; few = omega (arith, a .many, a .until, l .end, four-each gs) };
       record-room = h;
     }
 
@@ -100,7 +100,7 @@ module _ (all : Bool) (x : ℕ) (f : Formula) (rows : List (List ℤ)) (e : rows
 
 module _ {all : Bool} {x : ℕ} {f : Formula} {c : Copies} {o₀ o : List ℕ} (g : Copying all x f c o₀ o) where
   pub copying-closable : 6 ≤ length o → Closable c (length o)
-  copying-closable h = closable all _ c o₀ o (g .lists .2) h
+  copying-closable h = closable all _ _ c o₀ o (g .lists) h
 
   pub copying-put : (o′ : List ℕ) (r : ℕ) → Replaces c o o′ r → Put (replacement all x f) o′ r
   unfolding replacement
@@ -108,24 +108,14 @@ module _ {all : Bool} {x : ℕ} {f : Formula} {c : Copies} {o₀ o : List ℕ} (
       let cs = copies (points x (terms x f)) (push false f) in
       subst (λ (h : Formula). Put h o′ r) (ap formulaFor (rule-stay all cs) ∙ come-back (listed all cs)) (p all (decidedBy all cs) (stay cs) o₀ (g .lists))
 
--- ---- the answers that come first
-
-early-full : (x : ℕ) (f : Formula) → mostTerms < length (terms x f) → early x f ≡ 10
-unfolding early
-early-full x f h = ap (λ (b : Bool). cond b 10 (cond (numbersFit (points x (terms x f)) (push false f)) 0 11)) (lt-ltb mostTerms (length (terms x f)) h)
-
-pub early-numbers : (x : ℕ) (f : Formula) (b : Bool) → length (terms x f) ≤ mostTerms → numbersFit (points x (terms x f)) (push false f) ≡ b → early x f ≡ cond b 0 11
-unfolding early
-early-numbers x f b h e = ap₂ (λ (y z : Bool). cond y 10 (cond z 0 11)) (le-ltb mostTerms (length (terms x f)) h) e
-
 -- ---- what gathering found
 
 terms-are : (x : ℕ) (f : Formula) (ts : List ℤ) → gather x f (rowsOf 0 ts) ≡ terms x f
 unfolding terms rowsOf
 terms-are x f ts = refl
 
-pub full-early : (x : ℕ) (f : Formula) (ts₀ : List ℤ) {used : ℕ} {ts : List ℤ} {r : Gathered} → Collected used (gather x f (rowsOf 0 ts₀)) ts r → r ≡ Full → early x f ≡ 10
-full-early x f ts₀ {used} {ts} {r} g e = early-full x f (go (leb (length (gather x f (rowsOf 0 ts₀))) mostTerms) refl (g .answer))
+pub full-many : (x : ℕ) (f : Formula) (ts₀ : List ℤ) {used : ℕ} {ts : List ℤ} {r : Gathered} → Collected used (gather x f (rowsOf 0 ts₀)) ts r → r ≡ Full → mostTerms < length (terms x f)
+full-many x f ts₀ {used} {ts} {r} g e = go (leb (length (gather x f (rowsOf 0 ts₀))) mostTerms) refl (g .answer)
   where
     go : (b : Bool) → leb (length (gather x f (rowsOf 0 ts₀))) mostTerms ≡ b → r ≡ cond b (Fine used (length (gather x f (rowsOf 0 ts₀)))) Full → mostTerms < length (terms x f)
     go true h a = let z : _≡_ {A = ℕ} 0 1 = cc in absurd (omega arith)
@@ -135,7 +125,6 @@ full-early x f ts₀ {used} {ts} {r} g e = early-full x f (go (leb (length (gath
 pub record Found (x : ℕ) (f : Formula) (used : ℕ) (ts : List ℤ) (u n : ℕ) : Type 0 where
   pub bytes : u ≡ used
   pub most : n ≤ mostTerms
-  pub few : length (terms x f) ≤ mostTerms
   pub rows : rowsOf n ts ≡ terms x f
 
 pub fine-found : (x : ℕ) (f : Formula) (ts₀ : List ℤ) {used : ℕ} {ts : List ℤ} {r : Gathered} {u n : ℕ} → Collected used (gather x f (rowsOf 0 ts₀)) ts r → r ≡ Fine u n → Found x f used ts u n
@@ -145,7 +134,7 @@ fine-found x f ts₀ {used} {ts} {r} {u} {n} g e = go (leb (length (gather x f (
     go true h a =
         let k : n ≡ length (gather x f (rowsOf 0 ts₀)) = cc in
         let m = leb-true (length (gather x f (rowsOf 0 ts₀))) mostTerms h in
-        record { bytes = cc; most = omega arith; few = omega (arith, m, ap length (terms-are x f ts₀)); rows = ap (λ (j : ℕ). rowsOf j ts) k ∙ g .rows m ∙ terms-are x f ts₀ }
+        record { bytes = cc; most = omega arith; rows = ap (λ (j : ℕ). rowsOf j ts) k ∙ g .rows m ∙ terms-are x f ts₀ }
     go false h a = let z : _≡_ {A = ℕ} 0 1 = cc in absurd (omega arith)
 
 -- ---- what stands in the output once the list of copies is closed
@@ -205,10 +194,10 @@ never-big all false (more g none) e = let z : _≡_ {A = ℕ} 0 1 = cc in omega 
 never-big all false (more g (more h gs)) e = let z : _≡_ {A = ℕ} 0 1 = cc in omega arith
 
 -- a list of copies, which `closed` has closed
-module _ (all x : Bool) (gs : Formulas) (c : Copies) (o₀ o o′ : List ℕ) (r : Copied) (l : Lists all (going x gs) c o₀ o) (f : c .over ≡ false)
+module _ (all x : Bool) (gs : Formulas) (c : Copies) (o₀ o o′ : List ℕ) (r : Copied) (l : Lists all (going x gs) c o₀ o) (d : c .list .fixed ≡ false) (f : c .over ≡ false)
     (k : Closes (c .list) 0 o o′ r) where
   wrote : Wrote (closeOf all x gs) 0 0 o₀ o′ r
-  wrote = subst (λ (y : Bool). Wrote (closeOf y x gs) 0 0 o₀ o′ r) (l .2 .same) (subst (λ (y : Bool). Wrote (closeOf (c .list .all) y gs) 0 0 o₀ o′ r) (l .1) (k gs 0 o₀ (l .2 .written f)))
+  wrote = subst (λ (y : Bool). Wrote (closeOf y x gs) 0 0 o₀ o′ r) (l .same) (subst (λ (y : Bool). Wrote (closeOf (c .list .all) y gs) 0 0 o₀ o′ r) (l .fixed) (k gs 0 o₀ (l .live (sym (l .fixed) ∙ d) .written f)))
 
   pub closed-decided : (u : ℕ) (v : Bool) (o″ : List ℕ) (n : ℕ) → r ≡ Decided u v → Put (list v none) o″ n → Put (formulaFor (closeOf all x gs)) o″ n
   closed-decided u v o″ n e p = subst (λ (g : Formula). Put g o″ n) (sym (decided-is (closeOf all x gs) u v wrote e)) p

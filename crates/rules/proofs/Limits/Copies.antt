@@ -25,7 +25,8 @@ use Rattle.rules.specs.Copies.{atomBy, copy, copyAll, fits, fitAll}
 use Rattle.rules.specs.Points.{midpoints, allMidpoints, points, terms, spotFits}
 use Rattle.rules.specs.Steps.{copies, replacement, numbersFit, refusal}
 use Rattle.rules.specs.Eliminate.{finished}
-use Rattle.rules.proofs.Limits.Levels.{Wide, AllWide, wide-more}
+use Rattle.rules.specs.Levels.{Wide, AllWide}
+use Rattle.rules.proofs.Limits.Levels.{wide-more}
 
 -- two tests that both pass
 pub and-both : (a b : Bool) → a && b ≡ true → (a ≡ true) × (b ≡ true)

@@ -13,7 +13,8 @@ use Rattle.reading.specs.Formula.{Formula, Formulas, atom, not, list, quant, wi
 use Rattle.reading.specs.Quantifiers.{Quantifier, nothing, at, seek, seeks, lastIn, QuantifierAt, QuantifierAtAny}
 use Rattle.reading.proofs.Places.{nothing-free, free-nowhere, all-free-nowhere}
 use Rattle.rules.specs.Steps.{replacement, quantifiers, allQuantifiers, ifNone, step, stepIn, refusal, steps}
-use Rattle.rules.proofs.Limits.Levels.{Wide, AllWide, wide-more}
+use Rattle.rules.specs.Levels.{Wide, AllWide}
+use Rattle.rules.proofs.Limits.Levels.{wide-more}
 use Rattle.rules.proofs.Limits.Copies.{not-refused, replacement-fits, replacement-free}
 use Rattle.rules.proofs.Stepwise.Around.{Around, Amid, whole, underNot, underList, underQuantifier, inFirst, inLater, fill, fillAmid, Rear, RearAmid, members-are, front, frontAmid, rear, fill-bytes, free-zero, all-free-zero, zero-free, all-zero-free, free-seek, all-free-seek, Last, has-last, last-is}
 

@@ -13,7 +13,7 @@ use Rattle.reading.proofs.Places.{nothing-free, found-quantifier}
 use Rattle.rules.specs.Pushing.{push}
 use Rattle.rules.specs.Points.{terms, points}
 use Rattle.rules.specs.Steps.{quantifiers, step, numbersFit, refusal, Run, ran, halted, onward, afterStep, run, eliminated, steps}
-use Rattle.rules.proofs.Limits.Levels.{Wide}
+use Rattle.rules.specs.Levels.{Wide}
 use Rattle.rules.proofs.Stepwise.Around.{free-zero, zero-free}
 use Rattle.rules.proofs.Stepwise.OneStep.{step-wide, step-fewer, count-fewer, RecordAt, own-record, steps-stood}
 

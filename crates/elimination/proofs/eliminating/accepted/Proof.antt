@@ -1,114 +1,127 @@
--- `accepted`: the sheet stands at the start of the result buffer; the run is refused, or ends without quantifiers and is finished.
-use mathlib.Core.Path.{_≡_, sym, _∙_, ap, subst}
+-- `accepted`: where a room is too small, the next goes on from the formula that was reached; the last is never too small.
+use mathlib.Core.Path.{_≡_, _∙_, subst}
 use native.Mathlib.Omega.{arith}
 use lib.ListN.{length}
 use borrow.Author.Needs.{needs}
-use Rattle.reading.specs.Limits.{sheetLevels}
-use Rattle.reading.specs.Formula.{Fits}
 use Rattle.reading.specs.Reading.{treeOf}
 use Rattle.rules.specs.Steps.{eliminated}
-use Rattle.elimination.specs.Running.{Runs}
-use Rattle.elimination.specs.declared.Ran.{Ran}
-use Rattle.elimination.specs.declared.Ran.the-variants as Ran
-use Rattle.elimination.proofs.eliminating.Delivery.{Pasted, pasted, sheet-run, run-refused, Left, run-left, run-ended}
+use Rattle.elimination.specs.Stepping.{held}
+use Rattle.elimination.specs.Eliminating.{Carries, sheetRoom}
+use Rattle.elimination.specs.declared.Carried.{Carried}
+use Rattle.elimination.specs.declared.Carried.the-variants as Carried
+use Rattle.elimination.proofs.eliminating.Carrying.{gives-from, carries-from}
 use Rattle.elimination.proofs.eliminating.accepted.Statement.{statement}
 use Rattle.elimination.proofs.eliminating.accepted.Tie as tie
 use Rattle.elimination.proofs.eliminating.accepted.Reads as reads
 use Rattle.elimination.proofs.eliminating.accepted.Lts as lts
-use Rattle.elimination.proofs.eliminating.ended.Reads as ended-reads
-use Rattle.elimination.proofs.writing.paste.Reads as paste-reads
-use Rattle.elimination.proofs.running.steps.Reads as steps-reads
-use Rattle.elimination.proofs.eliminating.stopped.Reads as stopped-reads
+use Rattle.elimination.proofs.eliminating.begun.Reads as begun-reads
+use Rattle.elimination.proofs.eliminating.carried_far.Reads as carried-far-reads
+use Rattle.elimination.proofs.eliminating.carried_out.Reads as carried-out-reads
 
 abbrev calls : lts.Claims
-calls = (paste-reads.Asked, paste-reads.Learnt, steps-reads.Asked, steps-reads.Learnt, stopped-reads.Asked, stopped-reads.Learnt, ended-reads.Asked, ended-reads.Learnt)
+calls = (begun-reads.Asked, begun-reads.Learnt, carried-far-reads.Asked, carried-far-reads.Learnt, carried-out-reads.Asked, carried-out-reads.Learnt)
 
--- the sheet is in the buffer
-begun : (c : lts.After-paste calls reads.Pre reads.Post) → let a = c .before .before .before .before .before in Pasted (a .args .sheet .now) (a .args .result .now) (c .paste .last .0)
-begun c = let a = c .before .before .before .before .before in pasted (a .args .sheet .now) (a .args .result .now) (c .paste .last .0) (a .pre .0) (a .pre .1 .0) (c .paste .ensures)
+-- how far it came with no room
+near : (k : lts.After-begun calls reads.Pre reads.Post) (q : Carried) → k .begun .result ≡ q
+    → let a = k .before .before .before .before .before .before .before .args in Carries (treeOf (a .sheet .now)) (length (a .sheet .now)) 1 (a .result .now) (k .begun .last .1 .0) (a .work .now) (k .begun .last .1 .1 .0) q
+near k q e = let a = k .before .before .before .before .before .before .before .args in subst (Carries (treeOf (a .sheet .now)) (length (a .sheet .now)) 1 (a .result .now) (k .begun .last .1 .0) (a .work .now) (k .begun .last .1 .1 .0)) e (k .begun .ensures)
 
--- what the run over it came to
-went : (c : lts.After-steps calls reads.Pre reads.Post) (q : Ran) → c .steps .result ≡ q
-    → let a = c .before .before .before .before .before .before .before .before .before .before in Runs (eliminated (treeOf (a .args .sheet .now))) (a .args .result .now) (c .steps .last .0) (a .args .work .now) (c .steps .last .1 .0) q
-went c q e = let a = c .before .before .before .before .before .before .before .before .before .before in sheet-run (c .steps .last .0) (a .args .work .now) (c .steps .last .1 .0) (c .steps .result) q (begun (c .before .before .before .before .before)) e (c .steps .ensures)
+-- and with more
+far : (k : lts.After-carried-far calls reads.Pre reads.Post) (q : Carried) → k .carried-far .result ≡ q
+    → let a = k .before .before .before .before .before .before .before .before .before .before .before .before .before .before .before .before .before .before .args in Carries (treeOf (a .sheet .now)) (length (a .sheet .now)) sheetRoom (a .result .now) (k .carried-far .last .0) (a .work .now) (k .carried-far .last .1 .0) q
+far k q e =
+    let b = k .before .before .before .before .before .before .before .before .before .before .before in
+    let a = b .before .before .before .before .before .before .before .args in
+    let x = k .before .before .before .before .n .given in
+    let s = near b (Carried.Short (x .0 .0)) (x .1) in
+    subst (Carries (treeOf (a .sheet .now)) (length (a .sheet .now)) sheetRoom (a .result .now) (k .carried-far .last .0) (a .work .now) (k .carried-far .last .1 .0)) e
+    (carries-from (treeOf (a .sheet .now)) (a .result .now) (b .begun .last .1 .0) (a .work .now) (b .begun .last .1 .1 .0) (s .1) (s .2) (held (x .0 .0) (b .begun .last .1 .0)) (length (a .sheet .now)) sheetRoom (k .carried-far .last .0) (k .carried-far .last .1 .0)
+    (k .carried-far .result) (s .0 .same) (k .carried-far .ensures))
 
--- what it left, where it was not refused
-left : (c : lts.After-len calls reads.Pre reads.Post)
-    → let k = c .before .before .before .before .before .before in let a = k .before .before .before .before .before .before .before .before .before .before in Left (treeOf (a .args .sheet .now)) (a .args .result .now) (k .steps .last .0) (a .args .work .now) (k .steps .last .1 .0) (c .len .given .0 .0)
-left c =
-    let k = c .before .before .before .before .before .before in
-    let a = k .before .before .before .before .before .before .before .before .before .before in
-    let s = a .pre .0 in
-    run-left (treeOf (a .args .sheet .now)) (a .args .result .now) (k .steps .last .0) (a .args .work .now) (k .steps .last .1 .0) (c .len .given .0 .0) (s .levels)
-    (omega (arith, ap length (s .exactly .bytes), s .few)) (omega (arith, k .steps .kept .0, k .before .before .before .before .before .paste .kept .0, a .pre .1 .0)) (went k (Ran.Fine (c .len .given .0 .0)) (c .len .given .1))
+slice-aggregate-begun : tie.Need-slice-aggregate-begun
+slice-aggregate-begun c = search needs
 
-paste-requires : tie.Need-paste-requires
-paste-requires c κs = (omega (arith, c .before .before .before .before .pre .0 .few, c .before .before .before .before .pre .1 .0), omega arith)
+begun-requires : tie.Need-begun-requires
+begun-requires c κs = c .before .before .before .before .before .before .pre
 
-steps-requires : tie.Need-steps-requires
-steps-requires c κs =
-    let a = c .before .before .before .before .before .before .before .before .before in
-    let p = begun (c .before .before .before .before) in
-    (p .stands, (subst (Fits sheetLevels) (sym (p .tree)) (a .pre .0 .levels), a .pre .1 .1))
+enum-known-r : tie.Need-enum-known-r
+enum-known-r c = search needs
 
-enum-known-number : tie.Need-enum-known-number
-enum-known-number c = search needs
+enum-known-n : tie.Need-enum-known-n
+enum-known-n c = search needs
 
-stopped-requires : tie.Need-stopped-requires
-stopped-requires c κs =
+carried-far-requires : tie.Need-carried-far-requires
+carried-far-requires c κs =
+    let k = c .before .before .before .before .before .before .before .before .before .before in
+    let x = c .before .before .before .n .given in
+    let s = near k (Carried.Short (x .0 .0)) (x .1) in
+    (s .0 .stands, (s .0 .wide, omega (arith, k .begun .kept .1 .1 .0, k .before .before .before .before .before .before .before .pre .1 .1)))
+
+enum-known-r-2 : tie.Need-enum-known-r-2
+enum-known-r-2 c = search needs
+
+enum-known-m : tie.Need-enum-known-m
+enum-known-m c = search needs
+
+carried-out-requires : tie.Need-carried-out-requires
+carried-out-requires c κs =
     let k = c .before .before .before .before .before .before .before .before .before in
-    let a = k .before .before .before .before .before .before .before .before .before .before in
-    (omega (arith, k .steps .kept .0, k .before .before .before .before .before .paste .kept .0, a .pre .1 .0), omega (arith, k .steps .kept .1 .0, a .pre .1 .1))
-
-enum-known-len : tie.Need-enum-known-len
-enum-known-len c = search needs
-
-ended-requires : tie.Need-ended-requires
-ended-requires c κs = let k = c .before .before .before .before .before .before .before .before .before in (left (c .before .before .before) .unquantified, omega (arith, k .steps .kept .1 .0, k .before .before .before .before .before .before .before .before .before .before .pre .1 .1))
+    let x = c .before .before .before .m .given in
+    let s = far k (Carried.Short (x .0 .0)) (x .1) in
+    (s .0 .stands, (s .0 .wide, omega (arith, k .carried-far .kept .1 .0, k .before .before .before .before .before .before .before .before .before .before .before .begun .kept .1 .1 .0, k .before .before .before .before .before .before .before .before .before .before .before .before .before .before .before .before .before .before .pre .1 .1)))
 
 same-length : tie.Need-same-length
-same-length c = c .before .before .before .before .stopped .kept .0 ∙ c .before .before .before .before .before .before .before .before .before .before .before .before .before .before .steps .kept .0 ∙ c .before .before .before .before .before .before .before .before .before .before .before .before .before .before .before .before .before .before .before .paste .kept .0
+same-length c = c .before .before .before .before .before .before .before .before .begun .kept .1 .0
 
 same-length-2 : tie.Need-same-length-2
-same-length-2 c = c .before .before .before .before .stopped .kept .1 .0 ∙ c .before .before .before .before .before .before .before .before .before .before .before .before .before .before .steps .kept .1 .0
+same-length-2 c = c .before .before .before .before .before .before .before .before .begun .kept .1 .1 .0
 
 returns : tie.Need-returns
-returns c =
-    let k = c .before .before .before .before .before .before .before .before .before .before .before .before .before .before in
-    let a = k .before .before .before .before .before .before .before .before .before .before .args in
-    let s = c .before .before .before .before .stopped in
-    let x = c .before .before .before .before .before .before .before .before .number .given in
-    run-refused (treeOf (a .sheet .now)) (a .result .now) (k .steps .last .0) (a .work .now) (k .steps .last .1 .0) (length (a .sheet .now)) (x .0 .0) (x .0 .1 .0) (s .result) (s .last .0) (s .last .1 .0)
-    (went k (Ran.Refused (x .0 .0) (x .0 .1 .0)) (x .1)) (s .ensures)
+returns c = let x = c .before .r .given in near (c .before .before .before .before .before .before .before .before) (Carried.Done (x .0 .0)) (x .1)
 
 same-length-3 : tie.Need-same-length-3
-same-length-3 c = c .before .before .before .before .ended .kept .0 ∙ c .before .before .before .before .before .before .before .before .before .before .before .before .before .before .steps .kept .0 ∙ c .before .before .before .before .before .before .before .before .before .before .before .before .before .before .before .before .before .before .before .paste .kept .0
+same-length-3 c = c .before .before .before .before .before .before .before .carried-far .kept .0 ∙ c .before .before .before .before .before .before .before .before .before .before .before .before .before .before .before .before .before .before .begun .kept .1 .0
 
 same-length-4 : tie.Need-same-length-4
-same-length-4 c = c .before .before .before .before .ended .kept .1 .0 ∙ c .before .before .before .before .before .before .before .before .before .before .before .before .before .before .steps .kept .1 .0
+same-length-4 c = c .before .before .before .before .before .before .before .carried-far .kept .1 .0 ∙ c .before .before .before .before .before .before .before .before .before .before .before .before .before .before .before .before .before .before .begun .kept .1 .1 .0
 
 returns-2 : tie.Need-returns-2
-returns-2 c =
+returns-2 c = let x = c .before .r2 .given in far (c .before .before .before .before .before .before .before) (Carried.Done (x .0 .0)) (x .1)
+
+same-length-5 : tie.Need-same-length-5
+same-length-5 c = c .before .before .before .before .carried-out .kept .0 ∙ c .before .before .before .before .before .before .before .before .before .before .before .before .before .before .carried-far .kept .0 ∙ c .before .before .before .before .before .before .before .before .before .before .before .before .before .before .before .before .before .before .before .before .before .before .before .before .before .begun .kept .1 .0
+
+same-length-6 : tie.Need-same-length-6
+same-length-6 c = c .before .before .before .before .carried-out .kept .1 .0 ∙ c .before .before .before .before .before .before .before .before .before .before .before .before .before .before .carried-far .kept .1 .0 ∙ c .before .before .before .before .before .before .before .before .before .before .before .before .before .before .before .before .before .before .before .before .before .before .before .before .before .begun .kept .1 .1 .0
+
+returns-3 : tie.Need-returns-3
+returns-3 c =
     let k = c .before .before .before .before .before .before .before .before .before .before .before .before .before .before in
-    let a = k .before .before .before .before .before .before .before .before .before .before .args in
-    let s = c .before .before .before .before .ended in
-    let x = c .before .before .before .before .before .before .before .before .len .given in
-    run-ended (treeOf (a .sheet .now)) (a .result .now) (k .steps .last .0) (a .work .now) (k .steps .last .1 .0) (length (a .sheet .now)) (x .0 .0) (s .result) (s .last .0) (s .last .1 .0)
-    (left (c .before .before .before .before .before .before .before .before)) (went k (Ran.Fine (x .0 .0)) (x .1)) (s .ensures)
+    let a = k .before .before .before .before .before .before .before .before .before .before .before .before .before .before .before .before .before .before .args in
+    let o = c .before .before .before .before .carried-out in
+    let x = c .before .before .before .before .before .before .before .before .m .given in
+    let s = far k (Carried.Short (x .0 .0)) (x .1) in
+    gives-from (treeOf (a .sheet .now)) (a .result .now) (k .carried-far .last .0) (a .work .now) (k .carried-far .last .1 .0) (s .1) (s .2) (length (a .sheet .now)) (eliminated (held (x .0 .0) (k .carried-far .last .0))) (o .result) (o .last .0) (o .last .1 .0)
+    (s .0 .same) (o .ensures)
 
 pub accepted-spec : {M : Type 1} → statement M
 accepted-spec =
     tie.close
     (tie.spec
-    paste-requires
-    steps-requires
-    enum-known-number
-    stopped-requires
-    enum-known-len
-    ended-requires
+    slice-aggregate-begun
+    begun-requires
+    enum-known-r
+    enum-known-n
+    carried-far-requires
+    enum-known-r-2
+    enum-known-m
+    carried-out-requires
     same-length
     same-length-2
     returns
     same-length-3
     same-length-4
-    returns-2)
+    returns-2
+    same-length-5
+    same-length-6
+    returns-3)

@@ -3,7 +3,7 @@ use mathlib.Core.Path.{sym, _∙_, subst}
 use borrow.Author.Needs.{needs}
 use Rattle.rules.specs.Eliminate.{Result, eliminate}
 use Rattle.elimination.specs.Eliminating.{Gives}
-use Rattle.elimination.proofs.eliminating.Delivery.{reading-accepts, sheet-accepted, sheet-refused, result-small, work-small, gives-no}
+use Rattle.elimination.proofs.eliminating.Carrying.{reading-accepts, sheet-accepted, sheet-refused, result-small, work-small, gives-no}
 use Rattle.elimination.proofs.eliminating.eliminate.Statement.{statement}
 use Rattle.elimination.proofs.eliminating.eliminate.Tie as tie
 

@@ -17,16 +17,16 @@ same-length c = omega arith
 returns : tie.Need-returns
 returns c = λ all x gs o₀ l.
     let k = c .before .before in
-    put-fixed all x gs _ _ _ (sym (l .1) ∙ k .before .before .before .if1 .taken) (ap Bool.not (l .2 .same)) (k .sure .ensures)
+    put-fixed all x gs _ _ _ (sym (l .fixed) ∙ k .before .before .before .if1 .taken) (ap Bool.not (l .same)) (k .sure .ensures)
 
 add-result : tie.Need-add-result
 add-result c = omega arith
 
 returns-2 : tie.Need-returns-2
-returns-2 c = λ all x gs o₀ l. put-large all x gs _ _ (sym (l .1) ∙ c .before .if1 .left) (l .2 .large (c .if2 .taken)) (omega arith)
+returns-2 c = λ all x gs o₀ l. let f = sym (l .fixed) ∙ c .before .if1 .left in put-large all x gs _ _ f (l .live f .large (c .if2 .taken)) (omega arith)
 
 closed-requires : tie.Need-closed-requires
-closed-requires c κs = c .before .before .before .before .before .pre .space (c .before .if2 .left)
+closed-requires c κs = c .before .before .before .before .before .pre .space (c .before .before .if1 .left) (c .before .if2 .left)
 
 enum-known-r : tie.Need-enum-known-r
 enum-known-r c = search needs
@@ -55,7 +55,7 @@ returns-3 c = λ all x gs o₀ l.
     let r = s .before .before .before in
     let k = r .before .before .before .before in
     let a = k .before .before .before .before .before .before in
-    closed-decided all x gs (a .args .c) o₀ (a .args .out .now) (k .closed .last .1 .0) (k .closed .result) l (k .before .before .if2 .left) (k .closed .ensures) _ _ _ _ (r .r .given .1) (s .sure2 .ensures)
+    closed-decided all x gs (a .args .c) o₀ (a .args .out .now) (k .closed .last .1 .0) (k .closed .result) l (k .before .before .before .if1 .left) (k .before .before .if2 .left) (k .closed .ensures) _ _ _ _ (r .r .given .1) (s .sure2 .ensures)
 
 same-length-3 : tie.Need-same-length-3
 same-length-3 c = same-closed (c .before .before .before .before .before)
@@ -65,7 +65,7 @@ returns-4 c = λ all x gs o₀ l.
     let r = c .before in
     let k = r .before .before .before .before in
     let a = k .before .before .before .before .before .before in
-    closed-kept all x gs (a .args .c) o₀ (a .args .out .now) (k .closed .last .1 .0) (k .closed .result) l (k .before .before .if2 .left) (k .closed .ensures) _ _ (r .r2 .given .1)
+    closed-kept all x gs (a .args .c) o₀ (a .args .out .now) (k .closed .last .1 .0) (k .closed .result) l (k .before .before .before .if1 .left) (k .before .before .if2 .left) (k .closed .ensures) _ _ (r .r2 .given .1)
 
 same-length-4 : tie.Need-same-length-4
 same-length-4 c = same-closed (c .before .before .before .before)
@@ -74,7 +74,7 @@ returns-5 : tie.Need-returns-5
 returns-5 c = λ all x gs o₀ l.
     let k = c .before .before .before .before in
     let a = k .before .before .before .before .before .before in
-    closed-big all x gs (a .args .c) o₀ (a .args .out .now) (k .closed .last .1 .0) (k .closed .result) l (k .before .before .if2 .left) (k .closed .ensures) (c .enum-told .given .1)
+    closed-big all x gs (a .args .c) o₀ (a .args .out .now) (k .closed .last .1 .0) (k .closed .result) l (k .before .before .before .if1 .left) (k .before .before .if2 .left) (k .closed .ensures) (c .enum-told .given .1)
 
 pub replaced-spec : {M : Type 1} → statement M
 replaced-spec =

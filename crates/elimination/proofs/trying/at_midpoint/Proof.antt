@@ -1,6 +1,6 @@
 -- `at_midpoint` meets its contract: each part of the table is a row, and the midpoint's own numbers are judged before the copy. Assumes nothing.
 use mathlib.Core.Path.{_≡_, refl, sym, _∙_, ap, ap₂, subst}
-use mathlib.Core.Bool.{false}
+use mathlib.Core.Bool.{true, false}
 use mathlib.Core.List.{List, [], _∷_}
 use lib.IntN.{ℤ}
 use borrow.Author.Needs.{needs}
@@ -13,8 +13,9 @@ use Rattle.exact.proofs.Rows.{all-each}
 use Rattle.exact.proofs.Terms.{each-midpoint}
 use Rattle.elimination.specs.Gathering.{rowAt}
 use Rattle.rules.specs.Pushing.{push}
+use Rattle.rules.specs.Copies.{fits}
 use Rattle.elimination.specs.Trying.{Tries, tryAll}
-use Rattle.elimination.proofs.trying.PointLaws.{try-fits, try-big, holding-bounds, part-is, part-long, part-small}
+use Rattle.elimination.proofs.trying.PointLaws.{try-fits, try-big, one-sure, holding-bounds, part-is, part-long, part-small}
 use Rattle.elimination.proofs.trying.at_midpoint.Statement.{statement}
 use Rattle.elimination.proofs.trying.at_midpoint.Tie as tie
 
@@ -56,14 +57,14 @@ part-midpoint-end-2 c = search needs
 
 midpoint-requires : tie.Need-midpoint-requires
 midpoint-requires c κs =
-    let a = c .before .before .before .before in
+    let a = c .before .before .before .before .before in
     let t = a .pre .1 .0 in
     let h = a .pre .1 .1 .0 in
     ((part-long t (a .args .i) (h .0), part-long t (a .args .j) (h .1)), (part-small t (a .args .i) (h .0), part-small t (a .args .j) (h .1)))
 
 -- what the midpoint is, and that its numbers are no longer than the code's
-is : (c : tie.After-midpoint) → let a = c .before .before .before .before .before in c .midpoint .result ≡ midpoint (rowAt (a .args .ts .now) (a .args .i)) (rowAt (a .args .ts .now) (a .args .j))
-is c = let a = c .before .before .before .before .before in c .midpoint .ensures ∙ ap₂ midpoint (part-is (a .args .ts .now) (a .args .i)) (part-is (a .args .ts .now) (a .args .j))
+is : (c : tie.After-midpoint) → let a = c .before .before .before .before .before .before in c .midpoint .result ≡ midpoint (rowAt (a .args .ts .now) (a .args .i)) (rowAt (a .args .ts .now) (a .args .j))
+is c = let a = c .before .before .before .before .before .before in c .midpoint .ensures ∙ ap₂ midpoint (part-is (a .args .ts .now) (a .args .i)) (part-is (a .args .ts .now) (a .args .j))
 
 slice-aggregate-within-all : tie.Need-slice-aggregate-within-all
 slice-aggregate-within-all c = search needs
@@ -71,18 +72,29 @@ slice-aggregate-within-all c = search needs
 within-all-requires : tie.Need-within-all-requires
 within-all-requires c κs =
     let k = c .before in
-    let a = k .before .before .before .before .before in
+    let a = k .before .before .before .before .before .before in
     let t = a .pre .1 .0 in
     let h = a .pre .1 .1 .0 in
     subst (Each 9223372036854775807) (sym (k .midpoint .ensures)) (each-midpoint (part-small t (a .args .i) (h .0)) (part-small t (a .args .j) (h .1)))
+
+-- where it is counted on, the numbers of the body at the midpoint fit
+sure : (c : tie.After-midpoint) →
+    let a = c .before .before .before .before .before .before .args in
+    a .body .way .calm ≡ true → fits (here (a .body .x) (c .midpoint .result)) (push false (treeOf (a .s .now))) ≡ true
+sure c k =
+    let s = c .before .before .before .before .before .before in
+    let a = s .args in
+    let p = push false (treeOf (a .s .now)) in
+    subst (λ (y : List ℤ). fits (here (a .body .x) y) p ≡ true) (sym (is c)) (one-sure (a .body) (here (a .body .x) (midpoint (rowAt (a .ts .now) (a .i)) (rowAt (a .ts .now) (a .j)))) p (s .pre .1 .1 .1 .0) k)
 
 with-copy-requires : tie.Need-with-copy-requires
 with-copy-requires c κs =
     let e = c .before in
     let w = e .before in
-    let a = w .before .before .before .before .before .before .before in
+    let m = w .before .before in
+    let a = m .before .before .before .before .before .before in
     let b = a .pre .0 in
-    ((b .begins, b .free), (record { low = b .low; nums = all-each M (w .before .before .midpoint .result) (sym (w .within-all .ensures) ∙ e .if1 .taken) }, (b .room, holding-bounds (a .pre .1 .1 .1))))
+    (b, ((record { low = b .low; nums = all-each M (m .midpoint .result) (sym (w .within-all .ensures) ∙ e .if1 .taken) }, refl), (sure m, holding-bounds (a .pre .1 .1 .1 .1))))
 
 same-length : tie.Need-same-length
 same-length c = search needs
@@ -93,19 +105,22 @@ returns c =
     let e = k .before .before in
     let w = e .before in
     let m = w .before .before in
-    let a = m .before .before .before .before .before in
-    let z = m .midpoint .result in
-    subst (λ (y : List ℤ). Tries (a .args .c) (tryAll (here (a .args .x) y ∷ []) (push false (treeOf (a .args .s .now)))) (a .args .out .now) (k .with-copy .last .1 .1 .1 .0) (k .with-copy .result)) (is m)
-    (try-fits (a .args .c) (here (a .args .x) z) (push false (treeOf (a .args .s .now))) (a .args .out .now) (k .with-copy .last .1 .1 .1 .0) (k .with-copy .result) (sym (w .within-all .ensures) ∙ e .if1 .taken) (k .with-copy .ensures))
+    let a = m .before .before .before .before .before .before .args in
+    let p = push false (treeOf (a .s .now)) in
+    let o = k .with-copy .last .1 .1 .1 .1 .0 in
+    let r = k .with-copy .result in
+    subst (λ (y : List ℤ). Tries (a .body .bytes) (a .c) (tryAll (here (a .body .x) y ∷ []) p) (a .out .now) o r) (is m)
+    (try-fits (a .body .bytes) (a .c) (here (a .body .x) (m .midpoint .result)) p (a .out .now) o r (sym (w .within-all .ensures) ∙ e .if1 .taken) (k .with-copy .ensures))
 
 returns-2 : tie.Need-returns-2
 returns-2 c =
     let e = c .before in
     let w = e .before in
     let m = w .before .before in
-    let a = m .before .before .before .before .before in
-    try-big (a .args .c) (here (a .args .x) (midpoint (rowAt (a .args .ts .now) (a .args .i)) (rowAt (a .args .ts .now) (a .args .j)))) (push false (treeOf (a .args .s .now))) (a .args .out .now) (a .args .out .now) _
-    (sym (w .within-all .ensures ∙ ap (allIn M) (is m)) ∙ e .if1 .left) refl
+    let s = m .before .before .before .before .before .before in
+    let a = s .args in
+    try-big (a .body .bytes) (a .c) (here (a .body .x) (midpoint (rowAt (a .ts .now) (a .i)) (rowAt (a .ts .now) (a .j)))) (push false (treeOf (a .s .now))) (a .out .now) (a .out .now) _
+    (sym (w .within-all .ensures ∙ ap (allIn M) (is m)) ∙ e .if1 .left) refl (s .pre .1 .1 .1 .1 .roomy)
 
 pub at-midpoint-spec : {M : Type 1} → statement M
 at-midpoint-spec =

@@ -1,9 +1,9 @@
--- `reduce` meets its contract: divided by its divisor, or left alone where that is 0, since the row is then all zeros. Assumes nothing.
+-- `reduce` meets its contract: divided by its divisor, or left alone where that is 0 or 1 (`reduced-low`). Assumes nothing.
 use mathlib.Core.Path.{sym, _∙_, subst}
 use Prim.Native.Nat.{ℕ, _≤_}
-use native.Mathlib.Nat.{pos-of-ne-zero}
+use native.Mathlib.Omega.{arith}
 use borrow.Author.Needs.{needs}
-use Rattle.exact.proofs.Rows.{gcds-le, reduced-is, reduced-zero}
+use Rattle.exact.proofs.Rows.{gcds-le, reduced-is, reduced-low}
 use Rattle.exact.proofs.row.reduce.Statement.{statement}
 use Rattle.exact.proofs.row.reduce.Tie as tie
 
@@ -14,7 +14,7 @@ div-all-requires : tie.Need-div-all-requires
 div-all-requires c κs =
     let a = c .before .before in
     let e = a .before .before .pre in
-    (e, (pos-of-ne-zero (c .before .if1 .taken), subst (λ (n : ℕ). n ≤ 9223372036854775807) (sym (a .gcd-all .ensures)) (gcds-le e)))
+    (e, (omega (arith, c .before .if1 .taken), subst (λ (n : ℕ). n ≤ 9223372036854775807) (sym (a .gcd-all .ensures)) (gcds-le e)))
 
 same-length : tie.Need-same-length
 same-length c = search needs
@@ -26,7 +26,7 @@ same-length-2 : tie.Need-same-length-2
 same-length-2 c = search needs
 
 returns-2 : tie.Need-returns-2
-returns-2 c = reduced-zero _ (sym (c .before .gcd-all .ensures) ∙ c .if1 .left)
+returns-2 c = reduced-low _ (subst (λ (n : ℕ). n ≤ 1) (c .before .gcd-all .ensures) (c .if1 .left))
 
 pub reduce-spec : {M : Type 1} → statement M
 reduce-spec =

@@ -1,0 +1,2 @@
+-- The finishing pass.
+pub mod Results

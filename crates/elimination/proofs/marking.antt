@@ -1,0 +1,2 @@
+-- The marks of a body.
+pub mod MarkLaws

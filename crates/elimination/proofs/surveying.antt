@@ -1,0 +1,3 @@
+-- The look over a body.
+pub mod OverRecords
+pub mod SurveyLaws
