@@ -1,9 +1,9 @@
 #!/usr/bin/env python3
 """Times quantifier elimination by z3 (tactic qe) and cvc5 (get-qe) beside the archive, over the same sheets, in one run.
 
-Run: solvers.py RACE LIBRARY.so SHEET.., as bench/run does. Each solver gets all sheets in one process, and what it takes to start is subtracted; a sheet
-on which it takes more than ten seconds is passed over, for the archive too. A solver that is not installed is passed over. The archive is timed by
-the program RACE before and after each solver.
+Run: solvers.py RACE LIBRARY.so SHEET.., as bench/run does. Only sheets count that the archive answers with a result. Each solver gets all of them in one
+process, and what it takes to start is subtracted; a sheet on which it takes more than ten seconds is passed over, for the archive too. A solver that is not
+installed is passed over. The archive is timed by the program RACE before and after each solver.
 """
 
 import pathlib
@@ -69,8 +69,16 @@ def archive(race, library, sheets):
     return float(said.split(":")[1].split("µs")[0])
 
 
+def delivered(race, library, sheets):
+    """The sheets that are answered by 0."""
+    said = subprocess.run([race, f"now={library}", "--", *sheets], capture_output=True, text=True, check=True).stdout
+    rows = [line.split("|") for line in said.split("\n") if ".sheet |" in line]
+    return [sheet for sheet, row in zip(sheets, rows, strict=True) if row[3].strip() == "0"]
+
+
 def main():
     race, library, *sheets = sys.argv[1:]
+    sheets = delivered(race, library, sheets)
     terms = {name: term(pathlib.Path(name).read_bytes())[0] for name in sheets}
     for name, (command, head, question) in SOLVERS.items():
         if not shutil.which(command[0]):

@@ -111,6 +111,15 @@ copied-part-copied-start t c = omega (arith, begins-four (c .before .before .bef
 copied-part-copied-end : (t : ℕ) → copied-lts.Need-part-copied-end (calls t) (copied-at t) copied-reads.Post
 copied-part-copied-end t c = omega (arith, begins-four (c .before .before .before .before .before .before .pre .1 .begins))
 
+copied-returns-2 : (t : ℕ) → copied-lts.Need-returns-2 (calls t) (copied-at t) copied-reads.Post
+copied-returns-2 t c =
+    let k = c .before .before .before in
+    let m = k .before .before .before in
+    let a = m .before .before .before .before .before .before in
+    let s = a .args .s .now in
+    let q = a .args .q in
+    subst (λ (y : Copied). Wrote (came (spotOf q) (push (a .args .neg) (treeOf s))) (length (encode (treeOf s))) (a .args .to) (a .args .out .now) (k .copied .last .1 .1 .1 .1 .0) y) (sym (c .after .ensures)) (under-wrote (a .pre .1) (is-not t m) (a .args .out .now) (k .copied .last .1 .1 .1 .1 .0) (k .copied .result) (k .copied .ensures))
+
 copied-copied-requires : (t : ℕ) → copied-lts.Need-copied-requires (calls t) (copied-at t) copied-reads.Post
 copied-copied-requires t c κs =
     let m = c .before .before in
@@ -149,15 +158,6 @@ copied-returns t c = c .before .before .leaf .ensures
 
 copied-same-length-2 : (t : ℕ) → copied-lts.Need-same-length-2 (calls t) (copied-at t) copied-reads.Post
 copied-same-length-2 t c = search needs
-
-copied-returns-2 : (t : ℕ) → copied-lts.Need-returns-2 (calls t) (copied-at t) copied-reads.Post
-copied-returns-2 t c =
-    let k = c .before .before .before in
-    let m = k .before .before .before in
-    let a = m .before .before .before .before .before .before in
-    let s = a .args .s .now in
-    let q = a .args .q in
-    subst (λ (y : Copied). Wrote (came (spotOf q) (push (a .args .neg) (treeOf s))) (length (encode (treeOf s))) (a .args .to) (a .args .out .now) (k .copied .last .1 .1 .1 .1 .0) y) (sym (c .after .ensures)) (under-wrote (a .pre .1) (is-not t m) (a .args .out .now) (k .copied .last .1 .1 .1 .1 .0) (k .copied .result) (k .copied .ensures))
 
 copied-same-length-3 : (t : ℕ) → copied-lts.Need-same-length-3 (calls t) (copied-at t) copied-reads.Post
 copied-same-length-3 t c = search needs

@@ -109,13 +109,6 @@ below-way c =
 next : (k : tie.After-opened) → Parts (above (body k .x) ∷ rows k) (above (body k .x) ∷ []) (rows k)
 next k = record { is = refl }
 
-far-requires-2 : tie.Need-far-requires-2
-far-requires-2 c κs =
-    let e = c .before in
-    let b = e .before .before .before .before .before .before .before in
-    let w = below-way e in
-    (subst (λ (m : ℕ). Copiable (start b .args .s .now) (body b) m (start b .args .marks .now)) (sym (w .long)) (start b .pre .0), (way-sure w (next b), w .holding))
-
 ends-requires-2 : tie.Need-ends-requires-2
 ends-requires-2 c κs = tt
 
@@ -145,6 +138,13 @@ above-way c =
     let e = k .before .before in
     let b = e .before .before .before .before .before .before .before in
     way-more (below-way e) (next b) (k .far2 .ensures) (sym (c .before .ends2 .ensures) ∙ c .if3 .left) (high-same k)
+
+far-requires-2 : tie.Need-far-requires-2
+far-requires-2 c κs =
+    let e = c .before in
+    let b = e .before .before .before .before .before .before .before in
+    let w = below-way e in
+    (subst (λ (m : ℕ). Copiable (start b .args .s .now) (body b) m (start b .args .marks .now)) (sym (w .long)) (start b .pre .0), (way-sure w (next b), w .holding))
 
 rows-requires : tie.Need-rows-requires
 rows-requires c κs =
