@@ -34,7 +34,7 @@ fn shown(buffer: &[u8], n: usize) -> bool {
     if buffer.len() < n {
         return false;
     }
-    let r = elimination::test(&buffer[..n], next_values());
+    let r = testing::test(&buffer[..n], next_values());
     cases::show(r.number, b" ");
     cases::show(r.verdict, b" ");
     cases::show(r.place, b"\n");

@@ -13,7 +13,7 @@ use lib.IntN.{ℤ, pos}
 use lib.Signed.{_<ℤ_}
 use borrow.Author.Tests.{lt-ltb, le-ltb}
 use Rattle.reading.specs.Limits.{sheetLevels, resultBytes, resultLevels}
-use Rattle.reading.specs.Bytes.{Bytes}
+use Rattle.reading.specs.Bytes.{Bytes, zeros}
 use Rattle.reading.specs.Formula.{Formula, encode, Fits, Free}
 use Rattle.reading.specs.Quantifiers.{AtQuantifier}
 use Rattle.reading.specs.declared.Answer.{Answer}
@@ -23,7 +23,7 @@ use Rattle.reading.proofs.Refusals as Refusals
 use Rattle.reading.proofs.Whole as Whole
 use Rattle.reading.proofs.Looking as Looking
 use Rattle.exact.specs.Numbers.{at}
-use Rattle.rules.specs.Eliminate.{Result, cleared, zeros, resultOf, eliminate, eliminateIn, roomBytes}
+use Rattle.rules.specs.Eliminate.{Result, cleared, resultOf, eliminate, eliminateIn, roomBytes}
 use Rattle.rules.specs.Eliminate as Eliminate
 use Rattle.rules.specs.Test.{trueAt, Trial}
 use Rattle.meaning.specs.Meaning.{Values, fractions, Equal, sumOf, Means}

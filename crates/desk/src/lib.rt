@@ -78,7 +78,7 @@ pub extern "C" fn vb_test(
 ) -> Tested
     ensures { λ r. ⌜ TestsAt (now (sheet .entry)) (p0 ∷ p1 ∷ p2 ∷ p3 ∷ p4 ∷ p5 ∷ p6 ∷ p7 ∷ q ∷ []) r ⌝ }
 {
-    let said = elimination::test(sheet, [p0, p1, p2, p3, p4, p5, p6, p7, q]);
+    let said = testing::test(sheet, [p0, p1, p2, p3, p4, p5, p6, p7, q]);
     Tested {
         number: said.number as u64,
         verdict: said.verdict as u64,

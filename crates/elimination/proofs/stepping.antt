@@ -1,4 +1,4 @@
 -- One step in a buffer.
 pub mod Beside
-pub mod Replacing
+pub mod Splicing
 pub mod WholeStep

@@ -1,30 +1,25 @@
--- What the code of a step asks for and promises: the formula that stands at the start of a buffer, before and after; the replacement at the start of the
--- output; and the splice, which puts it in place of the quantifier and moves the bytes after it.
-use Prim.Native.Nat.{ℕ, zero, suc, _≤_, _+_, _-_, _*_, _<_}
+-- What the code of a step asks for and promises: the formula that stands at the start of a buffer, before and after, and the splice, which puts the replacement in place of the quantifier and moves the bytes after it.
+use Prim.Native.Nat.{ℕ, zero, suc, _≤_, _+_, _-_, _<_}
 use mathlib.Core.Path.{_≡_}
 use mathlib.Core.Bool.{Bool, false, true, cond}
 use mathlib.Core.List.{List, _++_}
 use lib.ListN.{length, take, drop}
 use lib.IntN.{ℤ}
 use Rattle.reading.specs.Limits.{resultBytes}
-use Rattle.reading.specs.Formula.{Formula, encode, Formulas, list, none}
+use Rattle.reading.specs.Formula.{Formula, encode, none}
 use Rattle.reading.specs.Reading.{treeOf, Exactly}
 use Rattle.reading.specs.Quantifiers.{Quantifier, nothing, at, lastIn}
-use Rattle.rules.specs.Points.{terms, points}
-use Rattle.rules.specs.Steps.{step, refusal, replacement, numbersFit}
+use Rattle.rules.specs.Points.{terms}
+use Rattle.rules.specs.Steps.{step, refusal, replacement}
 use Rattle.elimination.specs.declared.Stepped.{Stepped}
 use lib.Dec.{ltb}
-use Rattle.rules.specs.Pushing.{push}
 use Rattle.rules.specs.Eliminate.{roomBytes}
-use Rattle.elimination.specs.declared.Body.{Body}
-use Rattle.elimination.specs.declared.Copies.{Copies}
-use Rattle.elimination.specs.declared.Made.{Made}
+use Rattle.replacement.specs.declared.Body.{Body}
+use Rattle.replacement.specs.declared.Made.{Made}
 use Rattle.elimination.specs.declared.Stepped.the-variants as Stepped
-use Rattle.elimination.specs.declared.Made.the-variants as Made
-use Rattle.elimination.specs.Listing.{Come, closeOf, Space, truth, kept, big, going}
-use Rattle.elimination.specs.Gathering.{rowsOf, Table}
-use Rattle.elimination.specs.Marking.{Marked}
-use Rattle.elimination.specs.Trying.{Lists, Sure}
+use Rattle.replacement.specs.declared.Made.the-variants as Made
+use Rattle.replacement.specs.Gathering.{rowsOf, Table}
+use Rattle.replacement.specs.Replacing.{Told}
 
 -- the formula in the first n bytes of a buffer
 abbrev pub held : ℕ → List ℕ → Formula
@@ -66,13 +61,6 @@ pub record Steps (f : Formula) (n : ℕ) (cur₀ cur work₀ work : List ℕ) (r
   pub tried : Tried f cur₀ cur work₀ work r
   pub roomy : isShort r ≡ true → n < roomBytes
 
--- what is told of the body f for the variable x, of b bytes, and its marks
-pub record Told (f : Formula) (x b : ℕ) (ms : List ℕ) (y : Body) : Type 0 where
-  pub variable : y .x ≡ x
-  pub bytes : y .bytes ≡ b
-  pub marks : y .way .marked ≡ true → (b < 40 * length ms) × Marked x ms b f
-  pub sure : Sure y (points x (terms x f)) (push false f)
-
 -- the formula in the first len bytes of cur has its last quantifier at o; y tells of its body, and the table ts holds its n boundary terms
 pub record Poised (len o : ℕ) (every : Bool) (y : Body) (n : ℕ) (cur : List ℕ) (ts : List ℤ) (ms : List ℕ) : Type 0 where
   pub body : Formula
@@ -80,34 +68,6 @@ pub record Poised (len o : ℕ) (every : Bool) (y : Body) (n : ℕ) (cur : List 
   pub told : Told body (y .x) (length (encode body)) ms y
   pub table : Table ts n
   pub rows : rowsOf n ts ≡ terms (y .x) body
-
--- ---- the replacement
-
--- how a list came out, as a formula: true and false are records too
-abbrev pub formulaFor : Come → Formula
-formulaFor (truth b) = list b none
-formulaFor (kept g) = g
-formulaFor big = list true none
-
--- o begins with the bytes of g, and r is how many they are; or both r and they are more than a result may have
-pub record Put (g : Formula) (o : List ℕ) (r : ℕ) : Type 0 where
-  pub short : length (encode g) ≤ resultBytes → (r ≡ length (encode g)) × (take r o ≡ encode g)
-  pub long : resultBytes < length (encode g) → resultBytes < r
-
--- a list of copies, unless it is decided or over, stands in an output of n bytes, which has room for a record
-pub record Closable (c : Copies) (n : ℕ) : Type 0 where
-  pub space : c .list .fixed ≡ false → c .over ≡ false → Space (c .list) n
-  pub record-room : 6 ≤ n
-
--- whatever members the list of copies has, the list rule makes the replacement of them
-abbrev pub Replaces : Copies → List ℕ → List ℕ → ℕ → Type 0
-Replaces c o o′ r = (all x : Bool) (gs : Formulas) (o₀ : List ℕ) → Lists all (going x gs) c o₀ o → Put (formulaFor (closeOf all x gs)) o′ r
-
--- what the replacement of the quantifier over f came to, where o is the output, of n bytes
-abbrev pub MadeOf : Bool → Body → Formula → ℕ → List ℕ → Made → Type 0
-MadeOf all y f n o (Made.Fine r) = (numbersFit (points (y .x) (terms (y .x) f)) (push false f) ≡ true) × Put (replacement all (y .x) f) o r
-MadeOf all y f n o Made.Big = numbersFit (points (y .x) (terms (y .x) f)) (push false f) ≡ false
-MadeOf all y f n o Made.Short = n < resultBytes + 6 + 7 * y .bytes
 
 -- ---- the splice: r bytes of out in place of those from o to e, of a formula of len bytes
 

@@ -5,7 +5,6 @@ use crate::Ran;
 use crate::Reply;
 use crate::finishing;
 use crate::running;
-use crate::writing;
 use reading::Limit;
 use reading::RESULT_BYTES;
 use reading::read_whole;

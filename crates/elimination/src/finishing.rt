@@ -1,12 +1,10 @@
 // The finishing pass over a formula without quantifiers, in a buffer.
-use crate::Copied;
 use crate::Finished;
-use crate::Way;
-use crate::copying;
-use crate::writing;
 use exact::Point;
 use exact::PointKind;
 use reading::RESULT_BYTES;
+use replacement::Copied;
+use replacement::Way;
 ghost use mathlib.Core.Path.{_≡_};
 ghost use Prim.Native.Nat.{_*_, _≤_};
 ghost use lib.ListN.{length};
@@ -37,7 +35,7 @@ fn finish_in(cur: &mut [u8], len: usize, out: &mut [u8]) -> usize
         marked: false,
     };
     let marks = [0u8; 1];
-    match copying::copied(&cur[..len], false, way, no_point(), out, 0, &marks) {
+    match replacement::copy(&cur[..len], false, way, no_point(), out, 0, &marks) {
         Copied::Decided(_, v) => {
             writing::put_list(cur, 0, v, 0);
             6

@@ -1,4 +1,4 @@
--- The laws of `exact`, which the crates above cite: the ring of whole numbers, their order and signs, sizes, what a loop has done, divisors, rows, terms, atoms.
+-- The laws of `exact`, which the crates above cite: the ring of whole numbers, their order and signs, sizes, what a loop has done, divisors, rows, terms, atoms, the leaves of a formula.
 
 pub mod Ring
 pub mod Order
@@ -9,4 +9,5 @@ pub mod Rows
 pub mod Reduced
 pub mod Terms
 pub mod Atoms
+pub mod Leaves
 pub mod Examples

@@ -26,6 +26,10 @@ pub list-long : (j : Bool) (gs : Formulas) → length (encode (list j gs)) ≡ 6
 unfolding encode recordBytes fieldBytes
 list-long j gs = omega arith
 
+pub quant-long : (b : Bool) (v : ℕ) (f : Formula) → length (encode (quant b v f)) ≡ 6 + length (encode f)
+unfolding encode recordBytes fieldBytes
+quant-long b v f = omega arith
+
 pub window-long : (v : ℕ) (lo hi : ℤ) → length (encode (window v lo hi)) ≡ 14
 unfolding encode recordBytes fieldBytes intBytes
 window-long v lo hi = refl

@@ -1,7 +1,7 @@
 -- 01, 'A sheet on disk': all numbers are little-endian; two bytes unsigned, four bytes signed.
 use Prim.Native.Nat.{ℕ, zero, suc, _+_, _*_, _/_, _%_, _<_}
 use mathlib.Core.List.{List, [], _∷_, _++_}
-use lib.ListN.{getD}
+use lib.ListN.{getD, replicate}
 use lib.IntN.{ℤ}
 use mir.Syntax.{w32}
 use mir.Val.{toZ, ofZ}
@@ -33,6 +33,10 @@ bytes4 n = bytes2 (n % 65536) ++ bytes2 (n / 65536)
 unfoldable pub intBytes : List ℤ → List ℕ
 intBytes [] = []
 intBytes (z ∷ zs) = bytes4 (ofZ w32 z) ++ intBytes zs
+
+-- n bytes that are 0
+abbrev pub zeros : ℕ → List ℕ
+zeros n = replicate n 0
 
 -- every element is a byte
 abbrev pub Bytes : List ℕ → Type 0

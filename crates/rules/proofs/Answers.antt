@@ -13,7 +13,7 @@ use lib.IntN.{ℤ, pos}
 use lib.Signed.{_<ℤ_, ltZ}
 use borrow.Author.Tests.{ltb-false}
 use Rattle.reading.specs.Limits.{sheetBytes, sheetLevels, resultBytes, resultLevels, mostValue}
-use Rattle.reading.specs.Bytes.{Bytes}
+use Rattle.reading.specs.Bytes.{Bytes, zeros}
 use Rattle.reading.specs.Formula.{Formula, encode, Fits, Free}
 use Rattle.reading.specs.Reading.{good, formulaIn}
 use Rattle.reading.specs.Answers.{reading}
@@ -30,7 +30,7 @@ use Rattle.exact.specs.Numbers as Numbers
 use Rattle.exact.specs.Numbers.{allIn}
 use Rattle.rules.specs.Lists.{Known, decided, unknown, known}
 use Rattle.rules.specs.Steps.{Run, ran, halted, quantifiers, steps, eliminated}
-use Rattle.rules.specs.Eliminate.{Result, verdictBy, zeros, cleared, refused, delivered, finished, resultOf, byRun, byReading, eliminate, Roomy}
+use Rattle.rules.specs.Eliminate.{Result, verdictBy, cleared, refused, delivered, finished, resultOf, byRun, byReading, eliminate, Roomy}
 use Rattle.rules.specs.Test.{trueAt, allowed, refusedTest, byValues, byQuantifier, byTest, Trial, tested}
 use Rattle.rules.proofs.Limits.Levels.{fits-wide, wide-fits}
 use Rattle.rules.proofs.Limits.Copies.{and-both, finished-fits}

@@ -4,8 +4,9 @@ use Prim.Native.Nat.{ℕ, _-_, _≤_}
 use mathlib.Core.Bool.{true, false, _||_, cond}
 use mathlib.Core.List.{List, _++_}
 use lib.Dec.{ltb}
-use lib.ListN.{length, drop, replicate}
+use lib.ListN.{length, drop}
 use Rattle.reading.specs.Limits.{sheetBytes, sheetLevels, resultBytes}
+use Rattle.reading.specs.Bytes.{zeros}
 use Rattle.reading.specs.AnswerNumbers.{done, smallBuffer, longResult}
 use Rattle.reading.specs.Formula.{Formula, encode}
 use Rattle.reading.specs.Reading.{Read, good, fault, formulaIn}
@@ -32,9 +33,6 @@ abbrev pub verdictBy : Known → ℕ
 verdictBy (decided true) = 1
 verdictBy (decided false) = 0
 verdictBy unknown = 2
-
-abbrev pub zeros : ℕ → List ℕ
-zeros n = replicate n 0
 
 -- a buffer that is long enough
 abbrev pub Roomy : List ℕ → Type 0

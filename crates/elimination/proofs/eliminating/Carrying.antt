@@ -11,7 +11,7 @@ use lib.Seq.{take-length, length-take-le, drop-at}
 use borrow.Author.Tests.{lt-ltb, le-ltb, ltb-false}
 use Rattle.reading.specs.AnswerNumbers.{longResult}
 use Rattle.reading.specs.Limits.{sheetBytes, sheetLevels, resultBytes, resultLevels}
-use Rattle.reading.specs.Bytes.{Bytes}
+use Rattle.reading.specs.Bytes.{Bytes, zeros}
 use Rattle.reading.specs.Formula.{Formula, encode, Fits, Free}
 use Rattle.reading.specs.Reading.{Read, good, formulaIn, treeOf, Exactly}
 use Rattle.reading.specs.Answers.{reading}
@@ -27,11 +27,11 @@ use Rattle.rules.specs.Lists.{known}
 use Rattle.rules.specs.Copies.{fits}
 use Rattle.rules.specs.Levels.{Wide}
 use Rattle.rules.specs.Steps.{Run, ran, halted, eliminated}
-use Rattle.rules.specs.Eliminate.{Result, verdictBy, zeros, cleared, refused, delivered, finished, byRun, byReading, eliminate, roomBytes, eliminateIn}
+use Rattle.rules.specs.Eliminate.{Result, verdictBy, cleared, refused, delivered, finished, byRun, byReading, eliminate, roomBytes, eliminateIn}
 use Rattle.rules.proofs.Limits.Levels.{fits-wide, wide-fits}
 use Rattle.rules.proofs.Limits.Copies.{finishing-fits, finished-fits}
 use Rattle.rules.proofs.Stepwise.Run.{eliminated-wide, run-done}
-use Rattle.elimination.specs.Writing.{lay}
+use Rattle.writing.specs.Writing.{lay}
 use Rattle.elimination.specs.Stepping.{held, Stands}
 use Rattle.elimination.specs.Running.{Reached, RanTo}
 use Rattle.elimination.specs.Finishing.{Unquantified, FinishesIn}
@@ -40,7 +40,7 @@ use Rattle.elimination.specs.declared.Ran.the-variants as Ran
 use Rattle.elimination.specs.declared.Carried.{Carried}
 use Rattle.elimination.specs.declared.Carried.the-variants as Carried
 use Rattle.elimination.specs.declared.Reply.{Reply}
-use Rattle.elimination.proofs.writing.Lay.{length-lay}
+use Rattle.writing.proofs.Lay.{length-lay}
 use Rattle.elimination.proofs.running.RunLaws.{held-is, stands-as, eliminated-short}
 use Rattle.elimination.proofs.finishing.Results.{laid, past}
 use Rattle.elimination.proofs.eliminating.Delivery.{outcome}

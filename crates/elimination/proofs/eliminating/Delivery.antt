@@ -10,6 +10,7 @@ use lib.Dec.{ltb}
 use lib.ListN.{length, take, drop, getD, length-replicate, length-append}
 use lib.Seq.{getD-take, length-take-le, take-at}
 use borrow.Author.Tests.{lt-ltb, le-ltb}
+use Rattle.reading.specs.Bytes.{zeros}
 use Rattle.reading.specs.AnswerNumbers.{longResult}
 use Rattle.reading.specs.Limits.{resultBytes, resultLevels}
 use Rattle.reading.specs.Formula.{Formula, atom, not, list, quant, window, none, more, encode, encodes, recordBytes, fieldBytes, listNo, Fits}
@@ -18,13 +19,13 @@ use Rattle.reading.proofs.Laws.{ints-long}
 use Rattle.reading.proofs.Lengths.{four-long}
 use Rattle.rules.specs.Lists.{decided, known}
 use Rattle.rules.specs.Copies.{fits}
-use Rattle.rules.specs.Eliminate.{Result, verdictBy, zeros, cleared, refused, delivered}
-use Rattle.elimination.specs.Writing.{lay}
-use Rattle.elimination.specs.Copying.{came}
+use Rattle.rules.specs.Eliminate.{Result, verdictBy, cleared, refused, delivered}
+use Rattle.writing.specs.Writing.{lay}
+use Rattle.replacement.specs.Copying.{came}
 use Rattle.elimination.specs.Stepping.{held, Stands}
 use Rattle.elimination.specs.Eliminating.{Gives}
 use Rattle.elimination.specs.declared.Reply.{Reply}
-use Rattle.elimination.proofs.writing.Lay.{length-lay, lay-whole}
+use Rattle.writing.proofs.Lay.{length-lay, lay-whole}
 use Rattle.elimination.proofs.running.RunLaws.{held-is, stands-as, held-long}
 
 -- ---- bytes at the start of a buffer

@@ -3,13 +3,9 @@
 use mathlib.Core.Path.{_≡_, sym, _∙_, ap, ap₂}
 use mathlib.Core.List.{List}
 use Prim.Native.Nat.{ℕ}
-use lib.IntN.{ℤ}
 use Rattle.rules.specs.Eliminate.{Result, eliminate, eliminateIn}
 use Rattle.elimination.specs.Eliminating.{Gives}
-use Rattle.rules.specs.Test.{Trial, tested}
-use Rattle.elimination.specs.Testing.{trialOf}
 use Rattle.elimination.specs.declared.Reply.{Reply}
-use Rattle.elimination.specs.declared.Tested.{Tested}
 
 abbrev reply : ℕ → ℕ → ℕ → ℕ → Reply
 reply n v p l = record { number = n; verdict = v; place = p; length = l }
@@ -29,9 +25,3 @@ one-elimination sheet result work = one-reply (eliminate sheet result work)
 pub one-elimination-in : (n : ℕ) (sheet result work : List ℕ) (r s : Reply) (a b v w : List ℕ) → Gives (eliminateIn n sheet result work) r a v → Gives (eliminateIn n sheet result work) s b w
     → (r ≡ s) × (a ≡ b) × (v ≡ w)
 one-elimination-in n sheet result work = one-reply (eliminateIn n sheet result work)
-
-abbrev testReply : Trial → Tested
-testReply t = record { number = t .number; verdict = t .verdict; place = t .place }
-
-pub one-test : (sheet : List ℕ) (w : List ℤ) (r s : Tested) → trialOf r ≡ tested sheet w → trialOf s ≡ tested sheet w → r ≡ s
-one-test sheet w r s e f = ap testReply (e ∙ sym f)

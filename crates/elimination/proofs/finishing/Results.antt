@@ -13,15 +13,15 @@ use Rattle.rules.specs.Pushing.{push}
 use Rattle.rules.specs.Lists.{Known, decided, unknown, known}
 use Rattle.rules.specs.Copies.{copy, fits}
 use Rattle.rules.specs.Eliminate.{finished}
-use Rattle.elimination.specs.Writing.{lay, listBytes}
-use Rattle.elimination.specs.Listing.{Come, big, comeBy, comeOf, bigOf, Wrote}
-use Rattle.elimination.specs.Copying.{came}
+use Rattle.writing.specs.Writing.{lay, listBytes}
+use Rattle.replacement.specs.Listing.{Come, big, comeBy, comeOf, bigOf, Wrote}
+use Rattle.replacement.specs.Copying.{came}
 use Rattle.elimination.specs.Finishing.{FinishesIn}
-use Rattle.elimination.specs.declared.Copied.{Copied}
-use Rattle.elimination.specs.declared.Copied.the-variants.{Decided, Kept, Big}
-use Rattle.elimination.proofs.stepping.Replacing.{come-back, sure-bytes, decided-is, kept-is}
-use Rattle.elimination.proofs.listing.Members.{big-is}
-use Rattle.elimination.proofs.writing.Lay.{lay-take, lay-drop}
+use Rattle.replacement.specs.declared.Copied.{Copied}
+use Rattle.replacement.specs.declared.Copied.the-variants.{Decided, Kept, Big}
+use Rattle.replacement.proofs.Outcomes.{come-back, sure-bytes, decided-is, kept-is}
+use Rattle.replacement.proofs.Outcomes.{big-is}
+use Rattle.writing.proofs.Lay.{lay-take, lay-drop}
 
 -- ---- bytes at the start of a buffer
 

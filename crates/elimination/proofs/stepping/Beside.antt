@@ -11,12 +11,13 @@ use borrow.Author.Tests.{lt-ltb, le-ltb}
 use borrow.Rule.Slice.PartMut.{postOf, putMid, take-put, drop-put}
 use Rattle.reading.specs.Limits.{resultBytes}
 use Rattle.reading.specs.Formula.{Formula}
-use Rattle.elimination.specs.Writing.{lay}
-use Rattle.elimination.specs.Stepping.{Put, Splices, Joins}
+use Rattle.writing.specs.Writing.{lay}
+use Rattle.replacement.specs.Replacing.{Put}
+use Rattle.elimination.specs.Stepping.{Splices, Joins}
 use Rattle.elimination.specs.declared.Stepped.{Stepped}
 use Rattle.elimination.specs.declared.Stepped.the-variants as Stepped
-use Rattle.elimination.proofs.writing.Lay.{lay-take, lay-drop, lay-two, length-lay}
-use Rattle.elimination.proofs.writing.Moving.{drop-take}
+use Rattle.writing.proofs.Lay.{lay-take, lay-drop, lay-two, length-lay}
+use Rattle.writing.proofs.Moving.{drop-take}
 
 -- ---- `join`
 

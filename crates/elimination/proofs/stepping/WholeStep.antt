@@ -1,7 +1,7 @@
 -- One step over the bytes of a formula: what the record of the last quantifier says, what its body is, and that replacement and splice are 01's step
 -- with its answers 10, 11 and 12. Assumes nothing.
 use mathlib.Core.Path.{_≡_, refl, sym, _∙_, ap, ap₂, subst}
-use mathlib.Core.Bool.{Bool, true, false, cond}
+use mathlib.Core.Bool.{Bool, true, false, cond, true≢false}
 use mathlib.Core.List.{List, _++_, append-assoc}
 use Prim.Native.Nat.{ℕ, zero, suc, _+_, _-_, _*_, _≤_, _<_}
 use native.Mathlib.Omega.{arith}
@@ -22,22 +22,20 @@ use Rattle.reading.proofs.Places.{splits-at, stands-right, stands-drop, stands-
 use Rattle.rules.specs.Steps.{replacement, step, refusal, numbersFit}
 use Rattle.rules.specs.Points.{terms, points}
 use Rattle.rules.specs.Pushing.{push}
-use Rattle.elimination.specs.Gathering.{rowsOf, Table}
-use Rattle.elimination.proofs.marking.MarkLaws.{quant-long}
-use Rattle.elimination.specs.Marking.{Marked, HasMarks}
-use Rattle.elimination.specs.Trying.{Copiable, Sure}
-use Rattle.elimination.specs.Stepping.{held, Stands, refusalAt, steppedOf, isShort, Tried, Steps, Told, Poised, Put, MadeOf, splicedEnd, Splices}
-use Rattle.elimination.specs.declared.Body.{Body}
-use Rattle.elimination.specs.declared.Made.{Made}
+use Rattle.replacement.specs.Gathering.{rowsOf, Table}
+use Rattle.reading.proofs.Lengths.{quant-long}
+use Rattle.replacement.specs.Marking.{Marked, HasMarks}
+use Rattle.replacement.specs.Trying.{Copiable, Sure}
+use Rattle.replacement.specs.Replacing.{Told, Put, MadeOf}
+use Rattle.elimination.specs.Stepping.{held, Stands, refusalAt, steppedOf, isShort, Tried, Steps, Poised, splicedEnd, Splices}
+use Rattle.replacement.specs.declared.Body.{Body}
+use Rattle.replacement.specs.declared.Made.{Made}
 use Rattle.elimination.specs.declared.Stepped.{Stepped}
 use Rattle.elimination.specs.declared.Stepped.the-variants as Stepped
-use Rattle.elimination.proofs.gathering.TermLaws.{rows-long}
-use Rattle.elimination.proofs.stepping.Replacing.{Found}
-use Rattle.elimination.proofs.writing.Moving.{drop-take}
+use Rattle.replacement.proofs.Outcomes.{rows-long}
+use Rattle.replacement.proofs.Outcomes.{Found}
+use Rattle.writing.proofs.Moving.{drop-take}
 use Rattle.rules.proofs.Stepwise.OneStep.{Splits, splits}
-
-pub no : {A : Type 0} → true ≡ false → A
-no e = let z : _≡_ {A = ℕ} 0 1 = cc in absurd (omega arith)
 
 -- ---- the work buffer, where something was done to it before the step
 
@@ -50,7 +48,7 @@ steps-after s e =
 
 -- a step that did not come to its end
 pub step-short : {f : Formula} {cur work work′ : List ℕ} → drop resultBytes work′ ≡ drop resultBytes work → Tried f cur cur work work′ Stepped.Short
-step-short w = record { answer = λ s. no s; bytes = λ s z. no s; again = λ s. refl; cur-rest = refl; work-rest = w }
+step-short w = record { answer = λ s. absurd (true≢false s); bytes = λ s z. absurd (true≢false s); again = λ s. refl; cur-rest = refl; work-rest = w }
 
 -- ---- the answers
 
@@ -219,7 +217,7 @@ module _ {len o : ℕ} {cur : List ℕ} {b : Bool} {v : ℕ} {g : Formula} (st :
     late = refusal-is _ (refusal-numbers v g (step (held len cur)) true most num)
 
     again : isShort s ≡ true → cur′ ≡ cur
-    again h = no (sym h ∙ spliced-ends sp)
+    again h = absurd (true≢false (sym h ∙ spliced-ends sp))
 
     step-late : Tried (held len cur) cur cur′ work work′ s
     step-late = go (ltb resultBytes (length R)) refl

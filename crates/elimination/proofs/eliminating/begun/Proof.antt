@@ -11,7 +11,7 @@ use Rattle.elimination.proofs.eliminating.begun.Tie as tie
 use Rattle.elimination.proofs.eliminating.begun.Reads as reads
 use Rattle.elimination.proofs.eliminating.begun.Lts as lts
 use Rattle.elimination.proofs.eliminating.carried.Reads as carried-reads
-use Rattle.elimination.proofs.writing.paste.Reads as paste-reads
+use Rattle.writing.proofs.paste.Reads as paste-reads
 
 abbrev calls : lts.Claims
 calls = (paste-reads.Asked, paste-reads.Learnt, carried-reads.Asked, carried-reads.Learnt)

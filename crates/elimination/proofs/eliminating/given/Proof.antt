@@ -14,7 +14,7 @@ use Rattle.elimination.proofs.eliminating.given.Lts as lts
 use Rattle.elimination.proofs.eliminating.clear.Reads as clear-reads
 use Rattle.elimination.proofs.eliminating.stopped.Reads as stopped-reads
 use Rattle.elimination.proofs.eliminating.verdict.Reads as verdict-reads
-use Rattle.elimination.proofs.writing.put_zeros.Reads as put-zeros-reads
+use Rattle.writing.proofs.put_zeros.Reads as put-zeros-reads
 
 abbrev calls : lts.Claims
 calls = (stopped-reads.Asked, stopped-reads.Learnt, put-zeros-reads.Asked, put-zeros-reads.Learnt, clear-reads.Asked, clear-reads.Learnt, verdict-reads.Asked, verdict-reads.Learnt)

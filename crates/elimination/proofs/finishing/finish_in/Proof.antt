@@ -12,7 +12,7 @@ use Rattle.exact.specs.Atoms.{Spot, spotOf}
 use Rattle.rules.specs.Pushing.{push}
 use Rattle.rules.specs.Copies.{fits}
 use Rattle.rules.specs.Eliminate.{finished}
-use Rattle.elimination.specs.Listing.{comeOf, Wrote}
+use Rattle.replacement.specs.Listing.{comeOf, Wrote}
 use Rattle.elimination.specs.Stepping.{held}
 use Rattle.elimination.proofs.running.RunLaws.{held-long}
 use Rattle.elimination.proofs.finishing.Results.{finish-wrote, finish-sure, finish-long, finish-put, finish-room, finish-never}

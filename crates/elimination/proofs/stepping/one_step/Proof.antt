@@ -1,6 +1,6 @@
 -- `one_step`: what the record of the last quantifier says, the terms of its body, what is told of the body, and then the step.
 use mathlib.Core.Path.{_≡_, refl, sym, _∙_, ap, ap₂, subst}
-use mathlib.Core.Bool.{true}
+use mathlib.Core.Bool.{true, true≢false}
 use mathlib.Core.List.{List}
 use Prim.Native.Nat.{ℕ, _+_, _-_, _≤_, _<_}
 use native.Mathlib.Omega.{arith}
@@ -15,8 +15,8 @@ use Rattle.reading.proofs.Looking.{Body, body-at}
 use Rattle.exact.proofs.Rows.{each-zeros}
 use Rattle.rules.specs.Points.{terms}
 use Rattle.elimination.proofs.stepping.one_step.Statement.{statement}
-use Rattle.elimination.proofs.stepping.Replacing.{full-many, Found, fine-found}
-use Rattle.elimination.proofs.stepping.WholeStep.{no, within, variable-low, quantifier-at, binder-said, part-tree, part-read, body-long, body-read, step-many, poised}
+use Rattle.replacement.proofs.Outcomes.{full-many, Found, fine-found}
+use Rattle.elimination.proofs.stepping.WholeStep.{within, variable-low, quantifier-at, binder-said, part-tree, part-read, body-long, body-read, step-many, poised}
 use Rattle.elimination.proofs.stepping.one_step.Tie as tie
 
 last : (a : tie.Start) → Body true (take (a .args .len) (a .args .cur .now)) (a .args .o)
@@ -190,7 +190,7 @@ returns c =
     record {
       tried = step-many (a .pre .0) (q .is) (a .args .work .now)
           (subst (λ (us : List (List ℤ)). mostTerms < length us) (ap₂ terms (variable-is b) (tree a)) m);
-      roomy = λ s. no (sym s);
+      roomy = λ s. absurd (true≢false (sym s));
     }
 
 same-length-2 : tie.Need-same-length-2

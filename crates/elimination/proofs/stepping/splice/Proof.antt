@@ -3,7 +3,7 @@ use mathlib.Core.Path.{_≡_, _∙_}
 use native.Mathlib.Omega.{arith}
 use lib.ListN.{length}
 use Rattle.elimination.proofs.stepping.splice.Statement.{statement}
-use Rattle.elimination.proofs.writing.Moving.{splice-over, splice-fine}
+use Rattle.elimination.proofs.stepping.Splicing.{splice-over, splice-fine}
 use Rattle.elimination.proofs.stepping.splice.Tie as tie
 
 returns : tie.Need-returns

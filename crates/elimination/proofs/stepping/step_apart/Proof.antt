@@ -1,4 +1,5 @@
 -- `step_apart`: a room that may be too small is told first; then the replacement in the room, and the splice.
+use mathlib.Core.Bool.{true≢false}
 use mathlib.Core.Path.{_≡_, refl, sym, _∙_, subst}
 use mathlib.Core.List.{List}
 use Prim.Native.Nat.{ℕ, _+_, _≤_}
@@ -6,10 +7,10 @@ use native.Mathlib.Omega.{arith}
 use lib.ListN.{length}
 use borrow.Author.Needs.{needs}
 use Rattle.reading.specs.Limits.{resultBytes}
-use Rattle.elimination.specs.Stepping.{MadeOf}
-use Rattle.elimination.specs.declared.Made.{Made}
+use Rattle.replacement.specs.Replacing.{MadeOf}
+use Rattle.replacement.specs.declared.Made.{Made}
 use Rattle.elimination.proofs.stepping.step_apart.Statement.{statement}
-use Rattle.elimination.proofs.stepping.WholeStep.{no, spliced-ends, body-within, made-asks, made-told, step-wanting, step-big, step-fine}
+use Rattle.elimination.proofs.stepping.WholeStep.{spliced-ends, body-within, made-asks, made-told, step-wanting, step-big, step-fine}
 use Rattle.elimination.proofs.stepping.step_apart.Tie as tie
 
 inside : (a : tie.Start) → (a .args .o + 6 + a .args .body .bytes ≤ a .args .len) × (a .args .len ≤ resultBytes) × (resultBytes ≤ length (a .args .cur .now))
@@ -117,7 +118,7 @@ returns-2 c =
     let a = start (roomy k) in
     record {
       tried = step-fine (a .pre .0) (a .pre .1 .1) (made-as k _ (m .m .given .1)) (s .splice .ensures);
-      roomy = λ y. no (sym y ∙ spliced-ends (s .splice .ensures));
+      roomy = λ y. absurd (true≢false (sym y ∙ spliced-ends (s .splice .ensures)));
     }
 
 same-length-4 : tie.Need-same-length-4
@@ -132,7 +133,7 @@ returns-3 c =
     let a = start (roomy k) in
     record {
       tried = step-big (a .pre .0) (a .pre .1 .1) (a .args .work .now) (a .args .work .now) (made-as k _ (c .enum-told .given .1)) refl;
-      roomy = λ y. no (sym y);
+      roomy = λ y. absurd (true≢false (sym y));
     }
 
 same-length-6 : tie.Need-same-length-6

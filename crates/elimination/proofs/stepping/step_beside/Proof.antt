@@ -7,8 +7,8 @@ use lib.ListN.{length}
 use borrow.Author.Needs.{needs}
 use borrow.Rule.Slice.PartMut.{midOf, putMid, mid-len, same-len-mid}
 use Rattle.reading.specs.Limits.{resultBytes}
-use Rattle.elimination.specs.Stepping.{MadeOf}
-use Rattle.elimination.specs.declared.Made.{Made}
+use Rattle.replacement.specs.Replacing.{MadeOf}
+use Rattle.replacement.specs.declared.Made.{Made}
 use Rattle.elimination.proofs.stepping.step_beside.Statement.{statement}
 use Rattle.elimination.proofs.stepping.WholeStep.{body-within, made-asks, made-told, step-short, step-big, step-fine}
 use Rattle.elimination.proofs.stepping.Beside.{Behind, filled-rest, filled-put, joins-splices}

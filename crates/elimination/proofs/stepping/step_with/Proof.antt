@@ -1,4 +1,5 @@
 -- `step_with`: where the work buffer was short, the formula is as it was, and the step is made in the room.
+use mathlib.Core.Bool.{true≢false}
 use mathlib.Core.Path.{_≡_, refl, sym, _∙_, ap, subst}
 use mathlib.Core.List.{List}
 use mathlib.Core.Logic.{⊎-elim}
@@ -10,7 +11,7 @@ use Rattle.reading.specs.Limits.{resultBytes}
 use Rattle.elimination.specs.Stepping.{held, Stands, Tried, Steps, Poised}
 use Rattle.elimination.specs.declared.Stepped.{Stepped}
 use Rattle.elimination.proofs.stepping.step_with.Statement.{statement}
-use Rattle.elimination.proofs.stepping.WholeStep.{no, body-within, steps-after}
+use Rattle.elimination.proofs.stepping.WholeStep.{body-within, steps-after}
 use Rattle.elimination.proofs.stepping.step_with.Tie as tie
 
 inside : (a : tie.Start) → (a .args .o + 6 + a .args .body .bytes ≤ a .args .len) × (a .args .len ≤ resultBytes)
@@ -58,7 +59,7 @@ same-length-2 : tie.Need-same-length-2
 same-length-2 c = search needs
 
 returns : tie.Need-returns
-returns c = let r = c .before in record { tried = beside-as (r .before .before .before .before .before .before) _ (r .r .given .1); roomy = λ s. no (sym s) }
+returns c = let r = c .before in record { tried = beside-as (r .before .before .before .before .before .before) _ (r .r .given .1); roomy = λ s. absurd (true≢false (sym s)) }
 
 enum-known-r-2 : tie.Need-enum-known-r-2
 enum-known-r-2 c = search needs
@@ -70,7 +71,7 @@ same-length-4 : tie.Need-same-length-4
 same-length-4 c = search needs
 
 returns-2 : tie.Need-returns-2
-returns-2 c = let r = c .before in record { tried = beside-as (r .before .before .before .before .before .before) _ (r .r2 .given .1); roomy = λ s. no (sym s) }
+returns-2 c = let r = c .before in record { tried = beside-as (r .before .before .before .before .before .before) _ (r .r2 .given .1); roomy = λ s. absurd (true≢false (sym s)) }
 
 enum-told : tie.Need-enum-told
 enum-told c = search needs

@@ -1,2 +1,0 @@
--- The test at fractions.
-pub mod TestLaws

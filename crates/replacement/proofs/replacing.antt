@@ -1,0 +1,2 @@
+-- The replacement of a quantifier.
+pub mod ReplaceLaws
