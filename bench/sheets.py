@@ -1,8 +1,9 @@
 #!/usr/bin/env python3
-"""Writes the sheets of the benchmark: sheets.py FOLDER makes FOLDER/heavy, FOLDER/large, FOLDER/small and FOLDER/growth.
+"""Writes the sheets of the benchmark: sheets.py FOLDER makes FOLDER/heavy, FOLDER/large, FOLDER/long, FOLDER/small and
+FOLDER/growth.
 
 heavy: steps with many points, much to copy, or both. large: random coefficients up to 30,000, where a step is often not tame. small: random sheets
-with one to four quantifiers. growth: more and more terms and atoms. Each run writes the same bytes.
+with one to four quantifiers. long: more than 4,096 bytes. growth: more and more terms and atoms. Each run writes the same bytes.
 """
 
 import pathlib
@@ -11,7 +12,8 @@ import sys
 ROOT = pathlib.Path(__file__).resolve().parent.parent
 sys.path += [str(ROOT / "tests"), str(ROOT / "samples")]
 
-from records import allof, anyof, atmost, equal, every, less, some, window  # noqa: E402
+from make import film, longest  # noqa: E402
+from records import allof, anyof, atmost, equal, every, less, negation, some, window  # noqa: E402
 from trees import Dice, random_sheet  # noqa: E402
 
 
@@ -79,6 +81,26 @@ def large():
     return {f"rows of numbers to {most}, {count} atoms, {k}": rows(dice, count, most) for most in (1000, 5000, 30000) for count in (3, 6) for k in range(4)}
 
 
+def long():
+    """Sheets of 4,097 to 16,384 bytes."""
+    def scenes(count):
+        return [some(2, allof(less({2: -1, 0: 1}, k), less({2: 1, 1: -1}, 2 * k))) for k in range(count)]
+
+    def open_atoms(count):
+        return [less({4 + k % 3: 1, 7: 2 + k % 5}, k) for k in range(count)]
+    every_delay = lambda *parts: every(3, anyof(negation(window(3, 0, 30)), allof(*parts)))  # noqa: E731
+    return {
+        "a film, 20 deep": film(),
+        "the same without the delay": film()[30:],
+        "4,176 bytes, one EVERY over all": every_delay(*scenes(45)),
+        "8,000 bytes, one EVERY over all": every_delay(*scenes(40), *open_atoms(105)),
+        "16,000 bytes, 176 SOMEs": allof(*scenes(176)),
+        "16,000 bytes, one EVERY over all": every_delay(*scenes(20), *open_atoms(350)),
+        "16,384 bytes, no quantifier": longest(),
+        "762 windows, 12 at the end": allof(*[window(k % 8, -k, k) for k in range(762)]),
+    }
+
+
 def small():
     """Random sheets with one to four quantifiers."""
     dice, found = Dice(11), {}
@@ -100,10 +122,10 @@ def growth():
 
 def main():
     folder = pathlib.Path(sys.argv[1])
-    for group in (heavy, large, small, growth):
+    for group in (heavy, large, long, small, growth):
         (folder / group.__name__).mkdir(parents=True, exist_ok=True)
         for name, sheet in group().items():
-            assert len(sheet) <= 4096, (name, len(sheet))
+            assert len(sheet) <= 16_384, (name, len(sheet))
             (folder / group.__name__ / f"{name}.sheet").write_bytes(sheet)
 
 

@@ -1,7 +1,7 @@
 #!/usr/bin/env python3
 """Searches for sheets that take long: worst.py LIBRARY.so MINUTES [SEED]. Shapes and sizes are varied at random, and what takes longest is varied further.
 
-A sheet: an inner SOME or EVERY whose replacement is long, under further quantifiers, each over a list of what is inside and of windows and atoms. Only
+A sheet: an inner SOME or EVERY whose replacement is long, under further quantifiers, each over a list of what is inside and of windows and atoms; or several of these beside each other. Only
 sheets that reading accepts count. What takes longer than every sheet in bench/worst is saved there; the last line names the worst sheet and its time.
 Times are of one call on this machine: run it on a quiet one.
 """
@@ -62,7 +62,7 @@ def built(gene):
         inside = (some, every)[level["every"]](v % 6, (allof, anyof)[level["any"]](*members))
         if level["not"]:
             inside = negation(inside)
-    return inside
+    return inside if gene["beside"] == 1 else (anyof, allof)[gene["every"]](*[inside] * gene["beside"])
 
 
 def level(dice):
@@ -72,22 +72,24 @@ def level(dice):
 
 def fresh(dice):
     return {"lower": dice.randint(1, 18), "upper": dice.randint(1, 18), "scale": dice.choice([1, 1, 2, 7]), "big": dice.choice([1, 1, 3, 30011]), "every": dice.random() < 0.1,
-            "any": dice.random() < 0.1, "levels": [level(dice) for _ in range(dice.randint(1, 8))]}
+            "any": dice.random() < 0.1, "beside": dice.choice([1, 1, 1, 1, 2, 3, 4]), "levels": [level(dice) for _ in range(dice.randint(1, 11))]}
 
 
 def varied(dice, gene):
     new = {**gene, "levels": [dict(one) for one in gene["levels"]]}
     for _ in range(dice.randint(1, 3)):
-        choice = dice.randrange(6)
+        choice = dice.randrange(7)
         if choice == 0:
             key = dice.choice(["lower", "upper"])
             new[key] = max(0, new[key] + dice.choice([-2, -1, 1, 2]))
         elif choice == 1:
             new[dice.choice(["scale", "big"])] = dice.choice([1, 2, 3, 7, 30011])
-        elif choice == 2 and len(new["levels"]) < 10:
+        elif choice == 2 and len(new["levels"]) < 11:
             new["levels"].insert(dice.randrange(len(new["levels"]) + 1), level(dice))
         elif choice == 3 and len(new["levels"]) > 1:
             new["levels"].pop(dice.randrange(len(new["levels"])))
+        elif choice == 4:
+            new["beside"] = max(1, new["beside"] + dice.choice([-1, 1]))
         else:
             one = dice.choice(new["levels"])
             key = dice.choice(list(one))
@@ -106,7 +108,7 @@ def main():
     while time.time() < end:
         gene = fresh(dice) if len(pool) < 12 or dice.random() < 0.15 else varied(dice, dice.choice(pool)[1])
         sheet = built(gene)
-        if len(sheet) > 4096:
+        if len(sheet) > 16_384:
             continue
         tried += 1
         seconds, answer = archive.seconds(sheet)

@@ -18,16 +18,16 @@ extern "C" {
 #endif
 
 /* Limits. */
-#define VB_SHEET_BYTES 4096u    /* a sheet for vb_eliminate */
-#define VB_SHEET_LEVELS 16u
+#define VB_SHEET_BYTES 16384u   /* a sheet for vb_eliminate */
+#define VB_SHEET_LEVELS 24u
 #define VB_RESULT_BYTES 65536u  /* a result; a sheet for vb_test, vb_read and vb_look; the least length of both buffers */
-#define VB_RESULT_LEVELS 17u
+#define VB_RESULT_LEVELS 25u
 #define VB_MOST 1073741823      /* M: coefficients, constants, lo and hi lie in -M..M */
 #define VB_TERMS 64u            /* boundary terms in one step */
 #define VB_VALUE 1000000        /* values of a test lie in -VB_VALUE..VB_VALUE, its denominator in 1..VB_VALUE */
 #define VB_ROOM 524288u         /* the least length of the room of vb_eliminate_in */
 #define VB_STACK 716800u        /* bytes of stack that a call of vb_eliminate may use */
-#define VB_SMALL_STACK 32768u   /* bytes of stack that any other call may use */
+#define VB_SMALL_STACK 40960u   /* bytes of stack that any other call may use */
 
 /* Answers: the number of a reply. */
 enum {

@@ -5,7 +5,7 @@ Run:
     cargo build --release --offline --manifest-path tests/second/Cargo.toml
     python3 tests/make_cases.py
 A case is four bytes of length, little-endian, and then the sheet's bytes. The output has a line a case: number and
-place under the sheet's limits (4,096 bytes, 16 levels), number and place under the look's (65,536 bytes, 17 levels),
+place under the sheet's limits (16,384 bytes, 24 levels), number and place under the look's (65,536 bytes, 25 levels),
 the look's offset and length, then the length of its part and the 64-bit FNV-1a checksum of the part's bytes; nothing
 follows the length 0. Running it again changes nothing.
 """
@@ -18,7 +18,7 @@ from make import SAMPLES
 from records import LENGTH, allof, anyof, atmost, equal, every, less, negation, records, some, window
 
 SMALL = 110
-LIMIT = 900_000
+LIMIT = 1_200_000
 
 
 def replaced(sheet, at, new):
@@ -88,15 +88,15 @@ def field_changes(sheet):
 
 
 def depths():
-    """Around 16 and 17 levels: chains of each record over each leaf, and lists with one deep member."""
+    """Around 24 and 25 levels, and 16, the limit before: chains of each record over each leaf, and lists with one deep member."""
     cases = []
     leaves = [less({0: 1}), window(1, 0, 1), allof(), anyof(), less({0: M + 1}), window(8, 0, 1), window(1, 0, M + 1), b"\0" * 8,
               b"\5\0\4\0", b"\x28\0\1\0", b"\x0e\0", b""]
     for wrappers in WRAPPERS:
         for leaf in leaves:
-            for count in range(14, 20):
+            for count in [15, 16, *range(22, 28)]:
                 cases.append(chain(count, leaf, *wrappers))
-    for count in range(13, 19):
+    for count in [15, *range(21, 27)]:
         deep = chain(count, less({0: 1}), negation)
         cases += [allof(deep, less({0: 1})), anyof(less({0: 1}), deep), allof(anyof(), deep, window(9, 0, 0)), some(0, anyof(deep, deep)),
                   allof(window(9, 0, 0), deep), allof(every(1, anyof()), deep), allof(deep) + b"\0"]
@@ -129,14 +129,16 @@ def filled(count, *more):
 
 
 def sizes():
-    """Sheets of 4,096 and 65,536 bytes, one byte more, and the next sound length."""
-    cases = []
-    full = filled(102, negation(allof()))
-    assert len(full) == 4096
-    cases += [full, full[:-1], full + b"\0", filled(102, allof(), anyof()), filled(102, allof()), filled(102, allof()) + b"\0" * 4]
-    cases += [filled(101, every(1, less({0: 1})), allof())[:4096], filled(100, every(1, window(1, 0, 5)), some(0, negation(less({0: 1})))),
-              struct.pack("<HHH", 6, 6, 65535) + allof() * 681, struct.pack("<HHH", 6, 6, 681) + allof() * 681,
-              struct.pack("<HHH", 6, 6, 682) + allof() * 682, b"\xff" * 4097, b"\0" * 4097, b"\xff" * 4096]
+    """Sheets of 16,384 bytes, one byte more, and the next sound length; and of 4,096 and 4,097, the limit before."""
+    before = filled(102, negation(allof()))
+    assert len(before) == 4096
+    full = filled(409, allof(), allof(), anyof())
+    assert len(full) == 16_384
+    cases = [before, before[:-1], before + b"\0", filled(102, allof(), anyof()), b"\xff" * 4097]
+    cases += [full, full[:-1], full + b"\0", filled(409, *[allof()] * 4), filled(409, allof(), allof()) + b"\0" * 6]
+    cases += [filled(408, every(1, less({0: 1})), allof(), allof())[:16_384], filled(407, every(1, window(1, 0, 5)), some(0, negation(less({0: 1})))),
+              struct.pack("<HHH", 6, 6, 65535) + allof() * 2729, struct.pack("<HHH", 6, 6, 2729) + allof() * 2729,
+              struct.pack("<HHH", 6, 6, 2730) + allof() * 2730, b"\xff" * 16_385, b"\0" * 16_385, b"\xff" * 16_384]
     return cases
 
 

@@ -143,12 +143,12 @@ def shapes():
     """Pushing, lists, opening, order and what stays outside a step."""
     xy, yz = less({X: 1, Y: -1}), less({Y: 2, Z: -4}, 6)
     deep = window(X, 0, 1)
-    for k in range(15):
+    for k in range(23):
         deep = negation(deep) if k % 3 else allof(deep)
     return [
         allof(allof(allof(xy))), anyof(xy), anyof(allof(), xy), anyof(anyof(), xy), allof(anyof(), xy), allof(xy, allof(xy, xy), xy),
         negation(allof(xy, anyof(equal({X: 2}, 4), window(Y, 1, 2)))), negation(equal({X: -2, Y: 4}, 6)), equal({X: -2, Y: 4}, 6),
-        negation(negation(equal({}, 1))), negation(window(Z, 5, 5)), window(Z, 5, 4), deep, some(X, deep[4:]), nots(15),
+        negation(negation(equal({}, 1))), negation(window(Z, 5, 5)), window(Z, 5, 4), deep, some(X, deep[4:]), nots(23),
         allof(xy, some(X, xy), every(Y, yz), window(X, 1, 2)), anyof(some(X, some(X, xy)), negation(some(Y, yz)), less({X: 8}, 4)),
         some(X, allof(xy, some(X, allof(xy, less({X: -1}, 3))))), some(X, allof(some(X, less({X: 1, Y: 1})), less({X: 2, Y: -3}, 1))),
         every(X, anyof(less({X: 1, Y: 1}), every(X, less({X: 1, Y: 1})))), negation(every(X, some(Y, negation(xy)))),
@@ -158,13 +158,13 @@ def shapes():
         every(X, some(Y, every(Z, anyof(xy, less({Y: 1, Z: -1}))))), some(X, allof(atmost({X: -1}), atmost({X: 1}, -1), atmost({X: 1, Y: 1}, 0))),
         some(X, allof(less({X: 1}, -1), less({X: 1}, 1), less({X: 1, Y: 1}))), some(X, anyof(equal({X: 1}, -1), allof(xy, yz), anyof())),
         some(7, allof(less({7: 5, 6: -3}, 2), atmost({7: -2, 5: 4}, 8), equal({6: 1, 5: -1}))), filled_sheet(),
-        some(X, filled_sheet())[:SHEET_BYTES], b"\0" * 5000, b"", some(8, xy), some(X, less({X: M + 1})), some(X, xy) + b"\0", xy[:39], nots(16),
-    ]
+        some(X, filled_sheet())[:SHEET_BYTES], b"\0" * 20_000, b"", some(8, xy), some(X, less({X: M + 1})), some(X, xy) + b"\0", xy[:39], nots(24),
+    ] + [nots(k) for k in (15, 16, 17)]
 
 
 def filled_sheet():
-    """A sound sheet of just 4,096 bytes."""
-    return anyof(*[less({k % 8: 2}, 4 * k + 2) for k in range(102)], negation(TRUE))
+    """A sound sheet of just 16,384 bytes."""
+    return anyof(*[less({k % 8: 2}, 4 * k + 2) for k in range(409)], TRUE, TRUE, FALSE)
 
 
 def random_chosen(dice, wanted):
@@ -249,7 +249,7 @@ def test_refusals():
     origin, free = [0] * 8 + [1], less({X: 1}, -1)
     far = [[1000001] + [0] * 7 + [1], [0] * 7 + [-1000001, 1], [0] * 8 + [0], [0] * 8 + [-1], [0] * 8 + [1000001], [2**63 - 1] * 9,
            [-2**63] * 9, [0] * 3 + [2**32] + [0] * 4 + [1], [0] * 8 + [2**32 + 1], [1000001] * 8 + [0]]
-    deep = nots(16)
+    deep = nots(24)
     bodies = anyof(*[less({k % 8: 1}, k + 1) for k in range(1638)], negation(TRUE))
     bad = [b"", free[:39], b"\x28\0\x0a\0", b"\x27\0\1\0" + b"\0" * 35, some(8, free), less({X: M + 1}), window(9, 0, 0), negation(deep),
            free + b"\0", allof(free, free)[:60], allof(some(X, free), window(8, 0, 0))]
@@ -257,7 +257,7 @@ def test_refusals():
                   every(X, free)]
     cases = [(sheet, numbers) for sheet in bad for numbers in (origin, far[0])]
     cases += [(sheet, numbers) for sheet in quantified for numbers in (origin, far[2])]
-    cases += [(free, numbers) for numbers in far] + [(TRUE, far[4]), (FALSE, far[3]), (deep, origin), (nots(15), origin)]
+    cases += [(free, numbers) for numbers in far] + [(TRUE, far[4]), (FALSE, far[3]), (deep, origin), (nots(23), origin), (nots(16), origin)]
     cases += [(bodies, origin), (bodies, [-1000000] * 8 + [1]), (bodies + b"\0", origin)]
     cases += [(free, values_there) for values_there in ([1000000] * 8 + [1000000], [-1000000] * 8 + [1], [1000000] + [0] * 7 + [999999])]
     return cases

@@ -1,8 +1,10 @@
-/* The calls on threads with little stack: vb_eliminate_in on 128 KB, vb_eliminate on VB_STACK; and how much of a larger stack each call touches, against
- * VB_SMALL_STACK and VB_STACK. The sheets: those named, and sheets as deep as they may be, some with long results.
+/* The calls on threads with little stack: vb_eliminate_in on 128 KB, vb_eliminate on VB_STACK, and all but vb_eliminate on VB_SMALL_STACK and the least that
+ * a thread takes itself; and how much of a larger stack each call touches, against VB_SMALL_STACK and VB_STACK. The sheets: those named, and sheets as deep
+ * as they may be, some with long results.
  *     stack SHEET..
  */
 #define _GNU_SOURCE
+#include <limits.h>
 #include <pthread.h>
 #include <stdio.h>
 #include <stdlib.h>
@@ -35,16 +37,18 @@ static void atom(unsigned kind, int x, int a, int y, int b, int constant) {
     record(kind, numbers, sizeof numbers);
 }
 
-/* Quantifiers, then lists of one and NOTs down to the last level, then bounds of variable 0. */
-static void deep(int quantifiers, int nots, int bounds) {
+/* Quantifiers, then lists of one and NOTs down to the last level, then bounds of variable 0 and a WINDOW. */
+static void deep(int levels, int quantifiers, int nots, int bounds) {
     length = 0;
     for (int k = quantifiers - 1; k >= 0; k--) counted(k % 2 ? 8 : 7, (uint16_t)k);
-    for (int k = quantifiers; k < 14; k++) {
+    for (int k = quantifiers; k < levels - 2; k++) {
         if (nots && k % 2) record(4, 0, 0);
         else counted(5, 1);
     }
-    counted(5, (uint16_t)bounds);
+    counted(5, (uint16_t)(bounds + 1));
     for (int k = 0; k < bounds; k++) atom(1 + k % 3, 0, k % 2 ? -1 : 1, 1 + k % 6, k % 5 - 2, k);
+    uint16_t window[5] = {7, 3, 0, 9, 0}; /* after a step a list of two, one level further in */
+    record(9, window, sizeof window);
 }
 
 static void *in_room(void *painted) {
@@ -100,6 +104,8 @@ static void all(const char *name) {
     memset(work, 2, sizeof work);
     run(in_room, 131072);
     run(alone, VB_STACK);
+    run(in_room, VB_SMALL_STACK + PTHREAD_STACK_MIN);
+    run(others, VB_SMALL_STACK + PTHREAD_STACK_MIN);
     if (memcmp(&replies[0], &replies[1], sizeof *replies) || memcmp(result[0], result[1], VB_RESULT_BYTES) || memcmp(work[0], work[1], VB_RESULT_BYTES)) {
         printf("vb_eliminate and vb_eliminate_in differ on %s\n", name);
         exit(1);
@@ -125,12 +131,21 @@ int main(int argc, char **argv) {
     for (int quantifiers = 0; quantifiers <= 4; quantifiers++)
         for (int nots = 0; nots < 2; nots++)
             for (int bounds = 2; bounds <= 20; bounds += 6) {
-                deep(quantifiers, nots, bounds);
+                deep(VB_SHEET_LEVELS, quantifiers, nots, bounds);
                 all("a deep sheet");
+                if (replies[0].number == VB_DEEP) { printf("a sheet of %u levels is refused\n", VB_SHEET_LEVELS); return 1; }
                 sheets++;
             }
-    printf("%d sheets on threads of 128 KB and of %u bytes; stack touched at most: vb_eliminate_in %zu, vb_eliminate %zu, the other calls %zu bytes\n", sheets,
-           VB_STACK, most[0], most[1], most[2]);
+    for (int nots = 0; nots < 2; nots++) { /* one level more, which the other calls take */
+        deep(VB_RESULT_LEVELS, 0, nots, 20);
+        if (vb_read(sheet, length).number || vb_test(sheet, length, 1, 1, 1, 1, 1, 1, 1, 1, 1).number) { printf("a test of %u levels is refused\n", VB_RESULT_LEVELS); return 1; }
+        run(others, VB_SMALL_STACK + PTHREAD_STACK_MIN);
+        run(nothing, 0);
+        measure(2, others, used);
+        sheets++;
+    }
+    printf("%d sheets on threads of 128 KB, of %u bytes and of %u; stack touched at most: vb_eliminate_in %zu, vb_eliminate %zu, the other calls %zu bytes\n", sheets,
+           VB_STACK, VB_SMALL_STACK + (unsigned)PTHREAD_STACK_MIN, most[0], most[1], most[2]);
     if (most[0] > VB_SMALL_STACK || most[2] > VB_SMALL_STACK || most[1] > VB_STACK) {
         printf("more than the header states: VB_SMALL_STACK %u, VB_STACK %u\n", VB_SMALL_STACK, VB_STACK);
         return 1;

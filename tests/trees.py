@@ -14,7 +14,7 @@ SECOND = HERE / "second" / "target" / "release" / "second"
 sys.path.insert(0, str(HERE.parent / "samples"))
 from records import M, allof, anyof, atom, every, negation, some, window  # noqa: E402
 
-SHEET_BYTES = 4096
+SHEET_BYTES, SHEET_LEVELS = 16_384, 24
 
 
 class Dice:
@@ -110,7 +110,7 @@ def random_sheet(dice):
         if dice.chance(10):
             for variable in style.variables:
                 sheet = dice.one_of([some, every])(variable, sheet)
-        if len(sheet) <= SHEET_BYTES and depth_of(sheet) <= 16:
+        if len(sheet) <= SHEET_BYTES and depth_of(sheet) <= SHEET_LEVELS:
             return sheet
 
 

@@ -5,35 +5,37 @@
 use mathlib.Core.Path.{_≡_, sym, _∙_, ap, subst}
 use mathlib.Core.Logic.{_⊎_, _↔_}
 use mathlib.Core.List.{List, _++_}
-use mathlib.Core.Bool.{Bool, true, false, cond}
 use Prim.Native.Nat.{ℕ, _+_, _-_, _≤_, _<_}
-use lib.Dec.{ltb}
+use native.Mathlib.Omega.{arith}
 use lib.ListN.{length, take, drop}
 use lib.IntN.{ℤ, pos}
 use lib.Signed.{_<ℤ_}
-use borrow.Author.Tests.{lt-ltb, le-ltb}
-use Rattle.reading.specs.Limits.{sheetLevels, resultBytes, resultLevels}
+use Rattle.reading.specs.Limits.{sheetBytes, sheetLevels, resultBytes, resultLevels}
 use Rattle.reading.specs.Bytes.{Bytes, zeros}
 use Rattle.reading.specs.Formula.{Formula, encode, Fits, Free}
-use Rattle.reading.specs.Quantifiers.{AtQuantifier}
+use Rattle.reading.specs.Answers.{reading, answerOf}
+use Rattle.reading.specs.Quantifiers.{AtQuantifier, lookPart, lookWithin}
 use Rattle.reading.specs.declared.Answer.{Answer}
 use Rattle.reading.specs.declared.Part as Reading
+use Rattle.reading.specs.declared.Reply.the-variants.{Done}
 use Rattle.reading.proofs.Trees as Trees
 use Rattle.reading.proofs.Refusals as Refusals
 use Rattle.reading.proofs.Whole as Whole
 use Rattle.reading.proofs.Looking as Looking
+use Rattle.reading.proofs.OtherLimits as OtherLimits
 use Rattle.exact.specs.Numbers.{at}
-use Rattle.rules.specs.Eliminate.{Result, cleared, resultOf, eliminate, eliminateIn, roomBytes}
+use Rattle.rules.specs.Eliminate.{Result, cleared, resultOf, eliminate, eliminateIn, eliminateWithin, roomBytes}
 use Rattle.rules.specs.Eliminate as Eliminate
-use Rattle.rules.specs.Test.{trueAt, Trial}
+use Rattle.rules.specs.Test.{trueAt, Trial, tested, testedWithin}
 use Rattle.meaning.specs.Meaning.{Values, fractions, Equal, sumOf, Means}
 use Rattle.rules.specs.Variables.{Closed}
 use Rattle.rules.proofs.Answers as Answering
+use Rattle.rules.proofs.OtherLimits as Limiting
 use Rattle.meaning.proofs.Construction as Meanings
 use Rattle.meaning.proofs.Closed as Closing
 use Rattle.meaning.proofs.Values as Valuing
 use Rattle.meaning.proofs.Truth as Truth
-use Rattle.desk.specs.Promises.{gave, Eliminates, EliminatesIn, TestsAt, ReadsAs, LooksAt}
+use Rattle.desk.specs.Promises.{gave, gaveTest, gavePlace, gavePart, Eliminates, EliminatesIn, TestsAt, ReadsAs, LooksAt}
 use Rattle.desk.specs.declared.Reply.{Reply}
 use Rattle.desk.specs.declared.Tested.{Tested}
 use Rattle.desk.specs.declared.Place.{Place}
@@ -112,15 +114,10 @@ module _ (sheet : List ℕ) (ok : Bytes sheet) where
   pub look-answers : (p : Part) → LooksAt sheet p → LookAnswers sheet p
   look-answers p e = subst (λ (o : Reading.Part). LookAnswers sheet (partReply o)) (sym e) (record { within = Looking.look-within sheet ok })
 
--- what the call in the caller's room gives, by whether the room is too short
-room-is : (n : ℕ) (sheet out₀ work₀ : List ℕ) (b : Bool) → ltb n roomBytes ≡ b → eliminateIn n sheet out₀ work₀ ≡ cond b (Eliminate.refused 1 0 out₀ work₀) (eliminate sheet out₀ work₀)
-unfolding eliminateIn
-room-is n sheet out₀ work₀ b e = ap (λ (c : Bool). cond c (Eliminate.refused 1 0 out₀ work₀) (eliminate sheet out₀ work₀)) e
-
 -- vb_eliminate_in: in a room of at least 524,288 bytes its promise is that of vb_eliminate, so whatever the room holds all that is said of that call, here
 -- and below, is said of this one
 pub in-room : (sheet out₀ work₀ room₀ out work room : List ℕ) (r : Reply) → roomBytes ≤ length room₀ → EliminatesIn sheet out₀ work₀ room₀ r out work room → Eliminates sheet out₀ work₀ r out work
-in-room sheet out₀ work₀ room₀ out work room r h e = e .0 ∙ room-is (length room₀) sheet out₀ work₀ false (le-ltb (length room₀) roomBytes h)
+in-room sheet out₀ work₀ room₀ out work room r h e = e .0 ∙ Answering.in-room (length room₀) sheet out₀ work₀ h
 
 -- a shorter one is a short buffer: 1, and neither buffer changes
 pub record ShortRoom (out₀ work₀ : List ℕ) (r : Reply) (out work : List ℕ) : Type 0 where
@@ -132,7 +129,7 @@ pub record ShortRoom (out₀ work₀ : List ℕ) (r : Reply) (out work : List �
 
 pub short-room : (sheet out₀ work₀ room₀ out work room : List ℕ) (r : Reply) → length room₀ < roomBytes → EliminatesIn sheet out₀ work₀ room₀ r out work room → ShortRoom out₀ work₀ r out work
 short-room sheet out₀ work₀ room₀ out work room r h e =
-    let k = e .0 ∙ room-is (length room₀) sheet out₀ work₀ true (lt-ltb (length room₀) roomBytes h) in
+    let k = e .0 ∙ Answering.room-small (length room₀) sheet out₀ work₀ h in
     record {
       number = ap (λ (o : Result). o .number) k;
       verdict = ap (λ (o : Result). o .verdict) k;
@@ -172,6 +169,44 @@ one-reading sheet a b g h = ap placeReply (g ∙ sym h)
 
 pub one-look : (sheet : List ℕ) (p q : Part) → LooksAt sheet p → LooksAt sheet q → p ≡ q
 one-look sheet p q g h = ap partReply (g ∙ sym h)
+
+-- ==== Sheets that were stored under the limits of before: 4,096 bytes and 16 levels for a sheet, 17 levels for a test, a reading and a look
+
+abbrev bytesBefore : ℕ
+bytesBefore = 4096
+
+abbrev levelsBefore : ℕ
+levelsBefore = 16
+
+abbrev resultLevelsBefore : ℕ
+resultLevelsBefore = 17
+
+-- a sheet that was accepted gets the same number, verdict, place and length, and the same bytes in both buffers
+pub stored-sheet : (sheet out₀ work₀ out work : List ℕ) (r : Reply) {k : ℕ} → reading bytesBefore levelsBefore sheet ≡ Done k → Eliminates sheet out₀ work₀ r out work
+    → gave r out work ≡ eliminateWithin bytesBefore levelsBefore sheet out₀ work₀
+unfolding eliminate
+stored-sheet sheet out₀ work₀ out work r was e = e ∙ sym (Limiting.stored-result bytesBefore sheetBytes levelsBefore sheetLevels (omega arith) (omega arith) sheet was out₀ work₀)
+
+-- and of any sheet a desk with those limits says the same, or 2 at 0, or 8, and then its buffers are as they were
+pub older-desk : (sheet out₀ work₀ out work : List ℕ) (r : Reply) → Eliminates sheet out₀ work₀ r out work → let o = eliminateWithin bytesBefore levelsBefore sheet out₀ work₀ in
+    (o ≡ gave r out work) ⊎ ((o ≡ Eliminate.refused 2 0 out₀ work₀) ⊎ ((p : ℕ) × (o ≡ Eliminate.refused 8 p out₀ work₀)))
+unfolding eliminate
+older-desk sheet out₀ work₀ out work r e =
+    subst (λ (q : Result). let o = eliminateWithin bytesBefore levelsBefore sheet out₀ work₀ in (o ≡ q) ⊎ ((o ≡ Eliminate.refused 2 0 out₀ work₀) ⊎ ((p : ℕ) × (o ≡ Eliminate.refused 8 p out₀ work₀)))) (sym e)
+    (Limiting.older-result bytesBefore sheetBytes levelsBefore sheetLevels (omega arith) (omega arith) sheet out₀ work₀)
+
+-- a test, a reading and a look that were accepted
+module _ (sheet : List ℕ) {k : ℕ} (was : reading resultBytes resultLevelsBefore sheet ≡ Done k) where
+  pub stored-test : (w : List ℤ) (t : Tested) → TestsAt sheet w t → gaveTest t ≡ testedWithin resultBytes resultLevelsBefore sheet w
+  unfolding tested
+  stored-test w t e = e ∙ sym (Limiting.stored-test resultBytes resultBytes resultLevelsBefore resultLevels (omega arith) (omega arith) sheet was w)
+
+  pub stored-reading : (a : Place) → ReadsAs sheet a → gavePlace a ≡ answerOf (reading resultBytes resultLevelsBefore sheet)
+  stored-reading a e = e ∙ sym (ap answerOf (OtherLimits.stored resultBytes resultBytes resultLevelsBefore resultLevels (omega arith) (omega arith) sheet was .0))
+
+  pub stored-look : (p : Part) → LooksAt sheet p → gavePart p ≡ lookWithin resultBytes resultLevelsBefore sheet
+  unfolding lookPart
+  stored-look p e = e ∙ sym (Limiting.stored-look resultBytes resultBytes resultLevelsBefore resultLevels (omega arith) (omega arith) sheet was)
 
 -- ==== Demand 3: what is delivered means what the sheet says, at any rational values
 

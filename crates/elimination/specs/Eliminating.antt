@@ -24,9 +24,9 @@ abbrev pub Gives : Result → Reply → List ℕ → List ℕ → Type 0
 Gives e r result work =
     (r .number ≡ e .number) × (r .verdict ≡ e .verdict) × (r .place ≡ e .place) × (r .length ≡ e .length) × (result ≡ e .result) × (work ≡ e .work)
 
--- room for the copies of a body in a formula no longer than a sheet
+-- the most room that is tried before room for any formula: for the copies of a body in a formula no longer than a sheet
 abbrev pub sheetRoom : ℕ
-sheetRoom = 98304
+sheetRoom = 196608
 
 -- an elimination that stands at the formula f, of a sheet of m bytes, with a room of n bytes: it comes to its reply; or for want of room it stops on the way
 abbrev pub Carries : Formula → ℕ → ℕ → List ℕ → List ℕ → List ℕ → List ℕ → Carried → Type 0

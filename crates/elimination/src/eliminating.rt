@@ -5,6 +5,7 @@ use crate::Ran;
 use crate::Reply;
 use crate::finishing;
 use crate::running;
+use reading::LIST_BYTES;
 use reading::Limit;
 use reading::RESULT_BYTES;
 use reading::read_whole;
@@ -24,9 +25,13 @@ ghost use Rattle.elimination.specs.Finishing.{Unquantified};
 ghost use Rattle.elimination.specs.Eliminating.{Accepted, Gives, Carries, sheetRoom};
 ghost use Rattle.rules.specs.Eliminate.{cleared, eliminate, eliminateIn, refused, delivered, verdictBy, byRun, roomBytes};
 
-// Room for the copies of a body, in a formula no longer than a sheet and in any formula: for a list up to six bytes longer than a result, and then
-// for a copy, which has at most seven times the bytes of the body.
-const SHEET_ROOM: usize = 98304;
+// Room for the copies of a body, for a list up to six bytes longer than a result and then for a copy, which has at most seven times the bytes of the
+// body: in a formula of up to 4,680 bytes, of up to 9,361, of up to 18,723, as long as a sheet may be, and in any formula.
+const NEAR_ROOM: usize = 98304;
+
+const MIDDLE_ROOM: usize = 131072;
+
+const SHEET_ROOM: usize = 196608;
 
 const ROOM: usize = 524288;
 
@@ -123,7 +128,29 @@ fn carried(result: &mut [u8], work: &mut [u8], room: &mut [u8], len: usize, shee
     }
 }
 
-// The same in a room of its own, as a formula asks for that is no longer than a sheet.
+// The same in a room of its own, as a formula of up to 4,680 bytes asks for.
+fn carried_near(result: &mut [u8], work: &mut [u8], len: usize, sheet: usize) -> Carried
+    requires { ⌜ Stands len (now result) ⌝ }
+    requires { ⌜ Wide resultLevels (held len (now result)) ⌝ }
+    requires { ⌜ resultBytes ≤ length (now work) ⌝ }
+    ensures { λ r. ⌜ Carries (held len (now (result .entry))) sheet sheetRoom (now (result .entry)) (now (result .exit)) (now (work .entry)) (now (work .exit)) r ⌝ }
+{
+    let mut room = [0u8; NEAR_ROOM];
+    carried(result, work, &mut room, len, sheet)
+}
+
+// Of up to 9,361 bytes.
+fn carried_middle(result: &mut [u8], work: &mut [u8], len: usize, sheet: usize) -> Carried
+    requires { ⌜ Stands len (now result) ⌝ }
+    requires { ⌜ Wide resultLevels (held len (now result)) ⌝ }
+    requires { ⌜ resultBytes ≤ length (now work) ⌝ }
+    ensures { λ r. ⌜ Carries (held len (now (result .entry))) sheet sheetRoom (now (result .entry)) (now (result .exit)) (now (work .entry)) (now (work .exit)) r ⌝ }
+{
+    let mut room = [0u8; MIDDLE_ROOM];
+    carried(result, work, &mut room, len, sheet)
+}
+
+// Of up to 18,723 bytes.
 fn carried_far(result: &mut [u8], work: &mut [u8], len: usize, sheet: usize) -> Carried
     requires { ⌜ Stands len (now result) ⌝ }
     requires { ⌜ Wide resultLevels (held len (now result)) ⌝ }
@@ -132,6 +159,27 @@ fn carried_far(result: &mut [u8], work: &mut [u8], len: usize, sheet: usize) -> 
 {
     let mut room = [0u8; SHEET_ROOM];
     carried(result, work, &mut room, len, sheet)
+}
+
+// The same in the least of these rooms that is enough for all copies of a formula that is no longer than a sheet. A longer one begins with the smallest:
+// its last quantifier may stand over a short part of it.
+fn carried_on(result: &mut [u8], work: &mut [u8], len: usize, sheet: usize) -> Carried
+    requires { ⌜ Stands len (now result) ⌝ }
+    requires { ⌜ Wide resultLevels (held len (now result)) ⌝ }
+    requires { ⌜ resultBytes ≤ length (now work) ⌝ }
+    ensures { λ r. ⌜ Carries (held len (now (result .entry))) sheet sheetRoom (now (result .entry)) (now (result .exit)) (now (work .entry)) (now (work .exit)) r ⌝ }
+{
+    let most = RESULT_BYTES + LIST_BYTES + 7 * len;
+    if most <= NEAR_ROOM {
+        return carried_near(result, work, len, sheet);
+    }
+    if most <= MIDDLE_ROOM {
+        return carried_middle(result, work, len, sheet);
+    }
+    if most <= SHEET_ROOM {
+        return carried_far(result, work, len, sheet);
+    }
+    carried_near(result, work, len, sheet)
 }
 
 // The same in as much room as any formula asks for.
@@ -168,7 +216,7 @@ fn accepted(sheet: &[u8], result: &mut [u8], work: &mut [u8]) -> Reply
     let mut none = [0u8; 1];
     match begun(sheet, result, work, &mut none) {
         Carried::Done(r) => r,
-        Carried::Short(n) => match carried_far(result, work, n, sheet.len()) {
+        Carried::Short(n) => match carried_on(result, work, n, sheet.len()) {
             Carried::Done(r) => r,
             Carried::Short(m) => carried_out(result, work, m, sheet.len()),
         },

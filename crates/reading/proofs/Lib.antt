@@ -1,7 +1,7 @@
 -- The laws of reading, each group resting on those above it: numbers and records (Signed, Filling, Ints, Heads, Cases), a formula and a whole sheet as
 -- the code reads them (Reading, Whole), the numbers of its refusals (Refusals), what is written is read and what is read was written (Laws, Lengths, Sound, Accepts, Trees), the walk over
 -- the parts of a formula and what each record says (Walking, Viewing), the first and
--- the last quantifier and the look (Places, Scan, Looking), formulas that are passed over (Passing), and that each promise allows one reply (Unique). Examples are worked sheets.
+-- the last quantifier and the look (Places, Scan, Looking), formulas that are passed over (Passing), reading under other limits (OtherLimits), and that each promise allows one reply (Unique). Examples are worked sheets.
 pub mod Signed
 pub mod Filling
 pub mod Ints
@@ -21,5 +21,6 @@ pub mod Places
 pub mod Scan
 pub mod Passing
 pub mod Looking
+pub mod OtherLimits
 pub mod Unique
 pub mod Examples

@@ -9,17 +9,17 @@ M = 1073741823
 
 -- a sheet: at most this many bytes, nested at most this deep
 abbrev pub sheetBytes : ℕ
-sheetBytes = 4096
+sheetBytes = 16384
 
 abbrev pub sheetLevels : ℕ
-sheetLevels = 16
+sheetLevels = 24
 
 -- a result, and what the test at fractions and the look take
 abbrev pub resultBytes : ℕ
 resultBytes = 65536
 
 abbrev pub resultLevels : ℕ
-resultLevels = 17
+resultLevels = 25
 
 -- bytes that are known to be a formula's are read to this depth, whatever limit they were accepted by: no limit is deeper
 abbrev pub treeLevels : ℕ

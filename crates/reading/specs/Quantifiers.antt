@@ -83,8 +83,12 @@ partIn (Refused n p) r = record { at = 0; length = 0 }
 partIn (Done k) (good f j) = bodyPart (lastIn f)
 partIn (Done k) (fault n p) = record { at = 0; length = 0 }
 
+-- under the limits of `limit` bytes and d levels, and under those of the look
+abbrev pub lookWithin : ℕ → ℕ → List ℕ → Part
+lookWithin limit d s = partIn (reading limit d s) (formulaIn d s)
+
 unfoldable pub lookPart : List ℕ → Part
-lookPart s = partIn (reading resultBytes resultLevels s) (formulaIn resultLevels s)
+lookPart s = lookWithin resultBytes resultLevels s
 
 unfoldable pub look : List ℕ → List ℕ
 look s = take (lookPart s .length) (drop (lookPart s .at) s)

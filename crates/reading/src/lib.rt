@@ -27,14 +27,14 @@ ghost use Rattle.reading.specs.Answers.{answerOf, reading};
 ghost use Rattle.reading.specs.Quantifiers.{look, lookPart};
 
 // A sheet: at most this many bytes, nested at most this deep.
-pub const SHEET_BYTES: usize = 4096;
+pub const SHEET_BYTES: usize = 16384;
 
-pub const SHEET_LEVELS: usize = 16;
+pub const SHEET_LEVELS: usize = 24;
 
 // A result, and what the test at fractions and the look take.
 pub const RESULT_BYTES: usize = 65536;
 
-pub const RESULT_LEVELS: usize = 17;
+pub const RESULT_LEVELS: usize = 25;
 
 // Bytes that are known to be a formula's are read to this depth, whatever limit they were accepted by.
 pub const TREE_LEVELS: usize = RESULT_LEVELS;

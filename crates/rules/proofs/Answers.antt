@@ -4,14 +4,14 @@ use mathlib.Core.Path.{_≡_, refl, sym, _∙_, ap, subst}
 use mathlib.Core.Bool.{Bool, true, false, _||_, cond}
 use mathlib.Core.List.{List, [], _++_, append-nil, append-assoc}
 use mathlib.Core.Logic.{_⊎_, inl, inr}
-use Prim.Native.Nat.{ℕ, _-_, _≤_}
+use Prim.Native.Nat.{ℕ, _-_, _≤_, _<_}
 use native.Mathlib.Omega.{arith}
 use lib.Dec.{T, ltb}
 use lib.ListN.{length, take, drop, length-append, length-replicate}
 use lib.Seq.{take-append-seam, drop-append-seam, drop-at}
 use lib.IntN.{ℤ, pos}
 use lib.Signed.{_<ℤ_, ltZ}
-use borrow.Author.Tests.{ltb-false}
+use borrow.Author.Tests.{ltb-false, lt-ltb, le-ltb}
 use Rattle.reading.specs.Limits.{sheetBytes, sheetLevels, resultBytes, resultLevels, mostValue}
 use Rattle.reading.specs.Bytes.{Bytes, zeros}
 use Rattle.reading.specs.Formula.{Formula, encode, Fits, Free}
@@ -30,7 +30,7 @@ use Rattle.exact.specs.Numbers as Numbers
 use Rattle.exact.specs.Numbers.{allIn}
 use Rattle.rules.specs.Lists.{Known, decided, unknown, known}
 use Rattle.rules.specs.Steps.{Run, ran, halted, quantifiers, steps, eliminated}
-use Rattle.rules.specs.Eliminate.{Result, verdictBy, cleared, refused, delivered, finished, resultOf, byRun, byReading, eliminate, Roomy}
+use Rattle.rules.specs.Eliminate.{Result, verdictBy, cleared, refused, delivered, finished, resultOf, byRun, byReading, eliminate, eliminateIn, roomBytes, Roomy}
 use Rattle.rules.specs.Test.{trueAt, allowed, refusedTest, byValues, byQuantifier, byTest, Trial, tested}
 use Rattle.rules.proofs.Limits.Levels.{fits-wide, wide-fits}
 use Rattle.rules.proofs.Limits.Copies.{and-both, finished-fits}
@@ -97,6 +97,25 @@ eliminate-ends P sheet out work ok short unread stop long done = start (ltb (len
     start false e =
         let n = neither _ _ e in
         read (reading sheetBytes sheetLevels sheet) refl (ltb-false (length out) resultBytes (n .0)) (ltb-false (length work) resultBytes (n .1))
+
+-- ---- in the caller's room, of n bytes
+
+pub in-room : (n : ℕ) (sheet out work : List ℕ) → roomBytes ≤ n → eliminateIn n sheet out work ≡ eliminate sheet out work
+unfolding eliminateIn
+in-room n sheet out work h = ap (λ (b : Bool). cond b (refused 1 0 out work) (eliminate sheet out work)) (le-ltb n roomBytes h)
+
+pub room-small : (n : ℕ) (sheet out work : List ℕ) → n < roomBytes → eliminateIn n sheet out work ≡ refused 1 0 out work
+unfolding eliminateIn
+room-small n sheet out work h = ap (λ (b : Bool). cond b (refused 1 0 out work) (eliminate sheet out work)) (lt-ltb n roomBytes h)
+
+-- where a buffer is too short, no room is enough
+pub in-small : (n : ℕ) (sheet out work : List ℕ) → eliminate sheet out work ≡ refused 1 0 out work → eliminateIn n sheet out work ≡ refused 1 0 out work
+unfolding eliminateIn
+in-small n sheet out work e = go (ltb n roomBytes)
+  where
+    go : (b : Bool) → cond b (refused 1 0 out work) (eliminate sheet out work) ≡ refused 1 0 out work
+    go true = refl
+    go false = e
 
 -- ---- answer 0: the construction is delivered
 

@@ -5,4 +5,5 @@ pub mod PushedTerms
 pub mod Tame
 pub mod Stepwise
 pub mod Answers
+pub mod OtherLimits
 pub mod StarredEnds

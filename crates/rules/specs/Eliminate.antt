@@ -78,12 +78,15 @@ byReading n (Refused e p) r result work = refused e p result work
 byReading n (Done k) (good f j) result work = byRun n (eliminated f) result work
 byReading n (Done k) (fault e p) result work = refused e p result work
 
--- 1, then what reading refuses, then the steps
+-- 1, then what reading refuses, then the steps: under the limits of `limit` bytes and d levels, which only reading knows of; and under those of a sheet
+abbrev pub eliminateWithin : ℕ → ℕ → List ℕ → List ℕ → List ℕ → Result
+eliminateWithin limit d sheet result work =
+    cond (ltb (length result) resultBytes || ltb (length work) resultBytes) (refused smallBuffer 0 result work)
+    (byReading (length sheet) (reading limit d sheet) (formulaIn d sheet) result work)
+
 unfoldable pub eliminate : List ℕ → List ℕ → List ℕ → Result
 unfolding finished eliminated
-eliminate sheet result work =
-    cond (ltb (length result) resultBytes || ltb (length work) resultBytes) (refused smallBuffer 0 result work)
-    (byReading (length sheet) (reading sheetBytes sheetLevels sheet) (formulaIn sheetLevels sheet) result work)
+eliminate sheet result work = eliminateWithin sheetBytes sheetLevels sheet result work
 
 -- ---- the same in the caller's room, of n bytes: whatever it holds, the answer and both buffers are those of `eliminate`; a short one is a short buffer
 

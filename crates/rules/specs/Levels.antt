@@ -1,4 +1,4 @@
--- 01, 'Numbers that bound the work': nesting never exceeds 17, because a WINDOW opens into a list. `Wide d` says that every number of a formula
+-- 01, 'Numbers that bound the work': nesting never exceeds 25, because a WINDOW opens into a list. `Wide d` says that every number of a formula
 -- is in its range and that it has at most d levels, where a WINDOW counts two; this is what steps keep.
 use Prim.Native.Nat.{ℕ, _-_, _≤_, _<_}
 use Rattle.reading.specs.Limits.{lastVariable}

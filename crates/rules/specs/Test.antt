@@ -70,6 +70,10 @@ byTest (Refused e p) r w = refusedTest e p
 byTest (Done k) (good f j) w = byQuantifier (firstIn f) (byValues w f)
 byTest (Done k) (fault e p) w = refusedTest e p
 
+-- under the limits of `limit` bytes and d levels, and under those of the test
+abbrev pub testedWithin : ℕ → ℕ → List ℕ → List ℤ → Trial
+testedWithin limit d sheet w = byTest (reading limit d sheet) (formulaIn d sheet) w
+
 unfoldable pub tested : List ℕ → List ℤ → Trial
 unfolding trueAt
-tested sheet w = byTest (reading resultBytes resultLevels sheet) (formulaIn resultLevels sheet) w
+tested sheet w = testedWithin resultBytes resultLevels sheet w

@@ -94,7 +94,7 @@ fn eliminations(r: &mut Random, room: &mut Room, sheet: &[u8]) -> (u64, Vec<u8>)
 
 fn readings(room: &mut Room, sheet: &[u8]) {
     let bytes = room.sheet.filled(sheet);
-    let (number, place) = second::read(sheet, 65_536, 17);
+    let (number, place) = second::read(sheet, second::limits::LOOK_BYTES, second::limits::LOOK_LEVELS);
     if archive::read(bytes) != archive::Pair(number.into(), place as u64) {
         differ(sheet, "reading");
     }

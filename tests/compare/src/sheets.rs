@@ -32,6 +32,7 @@ struct Style {
     numbers: u64,
     width: u64,
     sparse: u64,
+    longest: usize,
 }
 
 fn number(r: &mut Random, style: &Style) -> i64 {
@@ -77,7 +78,7 @@ fn leaf(r: &mut Random, style: &Style, out: &mut Vec<u8>) {
 }
 
 fn formula(r: &mut Random, style: &Style, levels: u64, quantifiers: &mut u64, out: &mut Vec<u8>) {
-    if levels <= 1 || out.len() > 3500 {
+    if levels <= 1 || out.len() > style.longest {
         return leaf(r, style, out);
     }
     if *quantifiers > 0 && r.once_in(2) {
@@ -102,9 +103,9 @@ fn formula(r: &mut Random, style: &Style, levels: u64, quantifiers: &mut u64, ou
 }
 
 fn valid(r: &mut Random) -> Vec<u8> {
-    let style = Style { variables: 1 + r.below(8), numbers: r.below(6), width: 1 + r.below(6), sparse: 2 + r.below(3) };
+    let style = Style { variables: 1 + r.below(8), numbers: r.below(6), width: 1 + r.below(6), sparse: 2 + r.below(3), longest: 3500 };
     let mut quantifiers = r.below(5);
-    let levels = 1 + r.below(16);
+    let levels = 1 + r.below(24);
     let mut out = Vec::new();
     if quantifiers > 0 && r.once_in(2) {
         quantifiers -= 1;
@@ -132,7 +133,7 @@ fn damaged(r: &mut Random) -> Vec<u8> {
             }
             _ => {
                 let mut deeper = Vec::new();
-                for _ in 0..r.below(20) {
+                for _ in 0..r.below(28) {
                     record(&mut deeper, 4, &[]);
                 }
                 deeper.extend_from_slice(&out);
@@ -146,7 +147,7 @@ fn damaged(r: &mut Random) -> Vec<u8> {
 /// NOTs over an atom, around the deepest nesting.
 fn deep(r: &mut Random) -> Vec<u8> {
     let mut out = Vec::new();
-    for _ in 0..13 + r.below(6) {
+    for _ in 0..if r.once_in(4) { 13 } else { 21 } + r.below(6) {
         if r.once_in(3) {
             record(&mut out, 5 + r.below(2) as u16, &1u16.to_le_bytes());
         } else if r.once_in(6) {
@@ -155,7 +156,7 @@ fn deep(r: &mut Random) -> Vec<u8> {
             record(&mut out, 4, &[]);
         }
     }
-    leaf(r, &Style { variables: 2, numbers: 1, width: 1, sparse: 4 }, &mut out);
+    leaf(r, &Style { variables: 2, numbers: 1, width: 1, sparse: 4, longest: 3500 }, &mut out);
     out
 }
 
@@ -186,7 +187,7 @@ fn wide(r: &mut Random) -> Vec<u8> {
 /// Numbers at the limits, some in lists that fall away.
 fn extreme(r: &mut Random) -> Vec<u8> {
     let mut out = Vec::new();
-    let style = Style { variables: 2 + r.below(2), numbers: 4, width: 3, sparse: 3 };
+    let style = Style { variables: 2 + r.below(2), numbers: 4, width: 3, sparse: 3, longest: 3500 };
     for _ in 0..1 + r.below(2) {
         record(&mut out, 7 + r.below(2) as u16, &(r.below(style.variables) as u16).to_le_bytes());
     }
@@ -206,7 +207,7 @@ fn extreme(r: &mut Random) -> Vec<u8> {
 
 /// A flat list that fills a sheet or a result to the byte.
 fn full(r: &mut Random) -> Vec<u8> {
-    let target = *[4096usize, 4097, 4095, 65_536, 65_537, 65_530].get(r.below(6) as usize).unwrap();
+    let target = *[16_384usize, 16_385, 16_383, 4096, 65_536, 65_537, 65_530].get(r.below(7) as usize).unwrap();
     let (mut body, mut count) = (Vec::new(), 0u16);
     while body.len() + 6 + 40 <= target {
         let mut numbers = [0; 9];
@@ -226,6 +227,32 @@ fn full(r: &mut Random) -> Vec<u8> {
     if r.once_in(2) {
         out.truncate(6 + body.len());
     }
+    out
+}
+
+/// A sheet of some thousand bytes: a list of parts, with quantifiers over small parts and, at times, over the whole.
+fn long(r: &mut Random) -> Vec<u8> {
+    let style = Style { variables: 2 + r.below(6), numbers: r.below(3), width: 2 + r.below(4), sparse: 2 + r.below(3), longest: usize::MAX };
+    let target = 4_097 + r.below(12_200) as usize;
+    let (mut body, mut count) = (Vec::new(), 0u16);
+    while body.len() < target {
+        let mut part = Vec::new();
+        if r.once_in(8) {
+            record(&mut part, 7 + r.below(2) as u16, &(r.below(style.variables) as u16).to_le_bytes());
+        }
+        let levels = 1 + r.below(5);
+        formula(r, &style, levels, &mut 0, &mut part);
+        if part.len() < 700 {
+            body.extend_from_slice(&part);
+            count += 1;
+        }
+    }
+    let mut out = Vec::new();
+    if r.once_in(2) {
+        record(&mut out, 7 + r.below(2) as u16, &7u16.to_le_bytes());
+    }
+    record(&mut out, 5 + r.below(2) as u16, &count.to_le_bytes());
+    out.extend_from_slice(&body);
     out
 }
 
@@ -254,7 +281,11 @@ pub fn sheet(r: &mut Random) -> Vec<u8> {
         28..=29 => deep(r),
         30..=33 => wide(r),
         34..=37 => extreme(r),
-        38 => if r.once_in(4) { full(r) } else { valid(r) },
+        38 => match r.below(4) {
+            0 => full(r),
+            1 => long(r),
+            _ => valid(r),
+        },
         _ => noise(r),
     }
 }

@@ -37,7 +37,12 @@ pub fn eliminate(sheet: &[u8], result: &mut [u8], work: &mut [u8]) -> Reply {
 
 /// The bytes of the result, or the refusal with number 2 to 12.
 pub fn condition(sheet: &[u8]) -> Result<Vec<u8>, Refusal> {
-    let mut formula = formula_of(sheet, SHEET_BYTES, SHEET_LEVELS)?;
+    condition_within(SHEET_BYTES, SHEET_LEVELS, sheet)
+}
+
+/// The same under other limits of the sheet, as an older desk has them.
+pub fn condition_within(bytes: usize, levels: usize, sheet: &[u8]) -> Result<Vec<u8>, Refusal> {
+    let mut formula = formula_of(sheet, bytes, levels)?;
     while step(&mut formula)? {}
     let result = finished(&formula);
     if result.length() > RESULT_BYTES {

@@ -3,12 +3,12 @@
 /// Coefficients, constants, lo and hi lie in -M..M, and so do all reduced numbers.
 pub const M: i128 = 1_073_741_823;
 
-pub const SHEET_BYTES: usize = 4_096;
-pub const SHEET_LEVELS: usize = 16;
+pub const SHEET_BYTES: usize = 16_384;
+pub const SHEET_LEVELS: usize = 24;
 
 /// The limits of the test at fractions and of the look at a body.
 pub const LOOK_BYTES: usize = 65_536;
-pub const LOOK_LEVELS: usize = 17;
+pub const LOOK_LEVELS: usize = 25;
 
 pub const RESULT_BYTES: usize = 65_536;
 pub const TERMS: usize = 64;

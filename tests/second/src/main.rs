@@ -5,7 +5,7 @@
 //!     second read BYTES LEVELS < SHEET   number place
 //!     second look < SHEET                at length
 //!     second test P0,..,P7,Q < SHEET     number verdict place
-//!     second cases readings FILE         a line a case: read 4096 16, read 65536 17, look, then the body's length and checksum
+//!     second cases readings FILE         a line a case: read 16384 24, read 65536 25, look, then the body's length and checksum
 //!     second cases eliminations FILE     a line a case: verdict, then the result in hex or its checksum
 //!     second cases tests FILE            a line a case: test
 //!

@@ -1,7 +1,7 @@
 //! 01's "Sheets with known results" and its rules on buffers, asked of the second program.
 //! The sheets are the files of samples/, the lines those that 01 gives or, where it leaves one open, follow from it.
 
-use second::eliminating::{condition, Reply};
+use second::eliminating::{condition, condition_within, Reply};
 use second::limits::{LOOK_BYTES, LOOK_LEVELS, RESULT_BYTES, SHEET_BYTES, SHEET_LEVELS};
 use second::sheet::{Comparison, Formula, List, Sum};
 use second::{eliminate, look, read, test};
@@ -42,8 +42,12 @@ fn lines() {
         ("bound-again", (0, 1, 0, 6)),
         ("empty", (3, 3, 0, 0)),
         ("true", (0, 1, 0, 6)),
-        ("nots-15", (0, 2, 0, 40)),
-        ("nots-16", (8, 3, 64, 0)),
+        ("nots-23", (0, 2, 0, 40)),
+        ("nots-24", (8, 3, 96, 0)),
+        ("longest", (0, 2, 0, 16366)),
+        ("longest-plus-1", (2, 3, 0, 0)),
+        ("windows-762", (12, 3, 10674, 0)),
+        ("film", (0, 2, 0, 41784)),
         ("terms-64", (0, 1, 0, 6)),
         ("terms-65", (10, 3, 0, 0)),
         ("large-one", (0, 1, 0, 6)),
@@ -56,6 +60,31 @@ fn lines() {
         assert_eq!(reply(&sample(name)), line, "{name}");
     }
     assert_eq!(sample("window").len(), 110);
+}
+
+/// Under the limits before #101 each sample gives what it gives now, or 2 at 0, or 8; and those of both kinds are among them.
+#[test]
+fn older_limits() {
+    let (mut same, mut long, mut deep) = (0, 0, 0);
+    for file in std::fs::read_dir(format!("{}/../../samples", env!("CARGO_MANIFEST_DIR"))).unwrap() {
+        let file = file.unwrap().path();
+        if file.extension().is_some_and(|name| name == "sheet") {
+            let sheet = std::fs::read(&file).unwrap();
+            let before = condition_within(4_096, 16, &sheet);
+            match before {
+                Err(refusal) if refusal.number == 2 => {
+                    assert!(sheet.len() > 4_096 && refusal.place == 0, "{file:?}");
+                    long += 1;
+                }
+                Err(refusal) if refusal.number == 8 => deep += 1,
+                _ => {
+                    assert!(before == condition(&sheet), "{file:?}");
+                    same += 1;
+                }
+            }
+        }
+    }
+    assert!(same > 15 && long > 3 && deep > 1, "{same} {long} {deep}");
 }
 
 #[test]
@@ -82,7 +111,7 @@ fn buffers() {
     for (name, untouched) in [
         ("y-and-z", false),
         ("empty", true),
-        ("nots-16", true),
+        ("nots-24", true),
         ("terms-65", false),
         ("large-two", false),
         ("atoms-32", false),
@@ -111,8 +140,8 @@ fn reading_order() {
     assert_eq!(sheet_limits(&[6, 0, 5, 0, 1, 0]), (3, 6));
     assert_eq!(sheet_limits(&[6, 0, 5, 0, 0, 0, 9]), (9, 6));
     assert_eq!(sheet_limits(&vec![0; SHEET_BYTES + 1]), (2, 0));
-    assert_eq!(sheet_limits(&sample("nots-16")), (8, 64));
-    assert_eq!(read(&sample("nots-16"), LOOK_BYTES, LOOK_LEVELS), (0, 0));
+    assert_eq!(sheet_limits(&sample("nots-24")), (8, 96));
+    assert_eq!(read(&sample("nots-24"), LOOK_BYTES, LOOK_LEVELS), (0, 0));
 }
 
 #[test]

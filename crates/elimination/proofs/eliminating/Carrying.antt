@@ -27,7 +27,7 @@ use Rattle.rules.specs.Lists.{known}
 use Rattle.rules.specs.Copies.{fits}
 use Rattle.rules.specs.Levels.{Wide}
 use Rattle.rules.specs.Steps.{Run, ran, halted, eliminated}
-use Rattle.rules.specs.Eliminate.{Result, verdictBy, cleared, refused, delivered, finished, byRun, byReading, eliminate, roomBytes, eliminateIn}
+use Rattle.rules.specs.Eliminate.{Result, verdictBy, cleared, refused, delivered, finished, byRun, byReading, eliminate, roomBytes}
 use Rattle.rules.proofs.Limits.Levels.{fits-wide, wide-fits}
 use Rattle.rules.proofs.Limits.Copies.{finishing-fits, finished-fits}
 use Rattle.rules.proofs.Stepwise.Run.{eliminated-wide, run-done}
@@ -86,6 +86,11 @@ module _ (f : Formula) (m room : ℕ) (a₀ a w₀ w : List ℕ) {q : Carried} (
 -- in a room of n zeros
 pub carries-zeros : (n : ℕ) (f : Formula) (m : ℕ) (a₀ a w₀ w : List ℕ) (q : Carried) → Carries f m (length (zeros n)) a₀ a w₀ w q → Carries f m n a₀ a w₀ w q
 carries-zeros n f m a₀ a w₀ w q = subst (λ (k : ℕ). Carries f m k a₀ a w₀ w q) (length-replicate n 0)
+
+-- in any room that is not enough for every formula
+pub carries-less : (n k : ℕ) (f : Formula) (m : ℕ) (a₀ a w₀ w : List ℕ) (q : Carried) → k < roomBytes → Carries f m (length (zeros n)) a₀ a w₀ w q → Carries f m k a₀ a w₀ w q
+carries-less n k f m a₀ a w₀ w (Carried.Done r) h x = x
+carries-less n k f m a₀ a w₀ w (Carried.Short j) h x = (x .0, x .1, x .2, h)
 
 -- ---- the finishing pass
 
@@ -211,23 +216,6 @@ gives-no n p a w r o e h =
     subst (λ (x : Result). Gives x r a w) (sym e) (subst (λ (x : Reply). Gives (refused n p a w) x a w) (sym h) (refl, refl, refl, refl, refl, refl))
 
 -- ---- the caller's room
-
-pub in-room : (n : ℕ) (s a w : List ℕ) → roomBytes ≤ n → eliminateIn n s a w ≡ eliminate s a w
-unfolding eliminateIn
-in-room n s a w h = ap (λ (b : Bool). cond b (refused 1 0 a w) (eliminate s a w)) (le-ltb n roomBytes h)
-
-pub room-small : (n : ℕ) (s a w : List ℕ) → n < roomBytes → eliminateIn n s a w ≡ refused 1 0 a w
-unfolding eliminateIn
-room-small n s a w h = ap (λ (b : Bool). cond b (refused 1 0 a w) (eliminate s a w)) (lt-ltb n roomBytes h)
-
--- where a buffer is too short, no room is enough
-pub in-small : (n : ℕ) (s a w : List ℕ) → eliminate s a w ≡ refused 1 0 a w → eliminateIn n s a w ≡ refused 1 0 a w
-unfolding eliminateIn
-in-small n s a w e = go (ltb n roomBytes)
-  where
-    go : (b : Bool) → cond b (refused 1 0 a w) (eliminate s a w) ≡ refused 1 0 a w
-    go true = refl
-    go false = e
 
 -- the first n bytes of a room are lent and come back as p
 module _ (n : ℕ) (b : List ℕ) where

@@ -10,8 +10,9 @@ use Rattle.reading.specs.Limits.{sheetBytes, sheetLevels}
 use Rattle.reading.specs.Answers.{reading}
 use Rattle.reading.specs.declared.Reply.the-variants as Reading
 use Rattle.rules.specs.Eliminate.{Result, eliminateIn, roomBytes}
+use Rattle.rules.proofs.Answers.{in-room, room-small, in-small}
 use Rattle.elimination.specs.Eliminating.{Accepted, Gives}
-use Rattle.elimination.proofs.eliminating.Carrying.{reading-accepts, sheet-accepted, sheet-refused, result-small, work-small, in-room, room-small, in-small, gives-no, lent-long, lent-rest}
+use Rattle.elimination.proofs.eliminating.Carrying.{reading-accepts, sheet-accepted, sheet-refused, result-small, work-small, gives-no, lent-long, lent-rest}
 use Rattle.elimination.proofs.eliminating.eliminate_in.Statement.{statement}
 use Rattle.elimination.proofs.eliminating.eliminate_in.Tie as tie
 use Rattle.elimination.proofs.eliminating.eliminate_in.Reads as reads
