@@ -26,7 +26,7 @@ extern "C" {
 #define VB_TERMS 64u            /* boundary terms in one step */
 #define VB_VALUE 1000000        /* values of a test lie in -VB_VALUE..VB_VALUE, its denominator in 1..VB_VALUE */
 #define VB_ROOM 524288u         /* the least length of the room of vb_eliminate_in */
-#define VB_STACK 716800u        /* bytes of stack that a call of vb_eliminate may use */
+#define VB_STACK 716800u        /* bytes of stack that a call of vb_eliminate or vb_count may use */
 #define VB_SMALL_STACK 40960u   /* bytes of stack that any other call may use */
 
 /* Answers: the number of a reply. */
@@ -52,6 +52,7 @@ enum {
 enum { VB_FALSE = 0, VB_TRUE = 1, VB_OPEN = 2, VB_REFUSED = 3 };
 
 typedef struct { uint64_t number, verdict, place, length; } vb_reply;
+typedef struct { uint64_t number, verdict, place, length, steps, terms; } vb_counted;
 typedef struct { uint64_t number, verdict, place; } vb_tested;
 typedef struct { uint64_t number, place; } vb_place;
 typedef struct { uint64_t at, length; } vb_part;
@@ -66,6 +67,10 @@ vb_reply vb_eliminate(const uint8_t *sheet, size_t sheet_length, uint8_t *result
  * afterwards means nothing; what they held before does not matter. */
 vb_reply vb_eliminate_in(const uint8_t *sheet, size_t sheet_length, uint8_t *result, size_t result_length, uint8_t *work, size_t work_length,
                          uint8_t *room, size_t room_length);
+
+/* vb_eliminate with two numbers more: the steps that were finished (one for each quantifier, where nothing is refused), and the most boundary terms in any step
+ * that got past answer 10, so that a desk can show how near a sheet is to VB_TERMS. Both are 0 where the sheet is refused before its first step. Stack: VB_STACK. */
+vb_counted vb_count(const uint8_t *sheet, size_t sheet_length, uint8_t *result, size_t result_length, uint8_t *work, size_t work_length);
 
 /* Whether a quantifier-free sheet holds at p0/q .. p7/q: verdict 1 or 0, or 3 when refused. Writes nothing. */
 vb_tested vb_test(const uint8_t *sheet, size_t sheet_length, int64_t p0, int64_t p1, int64_t p2, int64_t p3, int64_t p4, int64_t p5, int64_t p6,

@@ -1,4 +1,4 @@
-/* The calls on threads with little stack: vb_eliminate_in on 128 KB, vb_eliminate on VB_STACK, and all but vb_eliminate on VB_SMALL_STACK and the least that
+/* The calls on threads with little stack: vb_eliminate_in on 128 KB, vb_eliminate and vb_count on VB_STACK, and all others on VB_SMALL_STACK and the least that
  * a thread takes itself; and how much of a larger stack each call touches, against VB_SMALL_STACK and VB_STACK. The sheets: those named, and sheets as deep
  * as they may be, some with long results.
  *     stack SHEET..
@@ -63,6 +63,13 @@ static void *alone(void *painted) {
     return 0;
 }
 
+static void *counting(void *painted) {
+    (void)painted;
+    vb_counted said = vb_count(sheet, length, result[1], VB_RESULT_BYTES, work[1], VB_RESULT_BYTES);
+    replies[1] = (vb_reply){said.number, said.verdict, said.place, said.length};
+    return 0;
+}
+
 static void *others(void *painted) {
     (void)painted;
     vb_read(sheet, length);
@@ -103,6 +110,7 @@ static void all(const char *name) {
     memset(result, 1, sizeof result);
     memset(work, 2, sizeof work);
     run(in_room, 131072);
+    run(counting, VB_STACK);
     run(alone, VB_STACK);
     run(in_room, VB_SMALL_STACK + PTHREAD_STACK_MIN);
     run(others, VB_SMALL_STACK + PTHREAD_STACK_MIN);
@@ -114,6 +122,7 @@ static void all(const char *name) {
     size_t idle = used;
     measure(0, in_room, idle);
     measure(1, alone, idle);
+    measure(1, counting, idle);
     measure(2, others, idle);
 }
 
@@ -144,7 +153,7 @@ int main(int argc, char **argv) {
         measure(2, others, used);
         sheets++;
     }
-    printf("%d sheets on threads of 128 KB, of %u bytes and of %u; stack touched at most: vb_eliminate_in %zu, vb_eliminate %zu, the other calls %zu bytes\n", sheets,
+    printf("%d sheets on threads of 128 KB, of %u bytes and of %u; stack touched at most: vb_eliminate_in %zu, vb_eliminate and vb_count %zu, the other calls %zu bytes\n", sheets,
            VB_STACK, VB_SMALL_STACK + (unsigned)PTHREAD_STACK_MIN, most[0], most[1], most[2]);
     if (most[0] > VB_SMALL_STACK || most[2] > VB_SMALL_STACK || most[1] > VB_STACK) {
         printf("more than the header states: VB_SMALL_STACK %u, VB_STACK %u\n", VB_SMALL_STACK, VB_STACK);

@@ -1,4 +1,4 @@
-"""Random sound sheets and the container of cases, for make_cases.py, make_sheets.py and meaning.py.
+"""Random sound sheets and the container of cases, for make_cases.py, make_sheets.py, make_seasons.py and meaning.py.
 
 The dice are written out here, so that a seed gives the same sheets under every Python.
 """

@@ -1,8 +1,8 @@
 -- The three demands, from the bytes that C hands over to the reply and the bytes that it finds. Each is said of any reply that the promise of the call
--- (`Eliminates`, `EliminatesIn`, `TestsAt`, `ReadsAs`, `LooksAt` of specs/Promises, which the exported functions are proved to keep) allows. That every
+-- (`Eliminates`, `EliminatesIn`, `CountsAlong`, `TestsAt`, `ReadsAs`, `LooksAt` of specs/Promises, which the exported functions are proved to keep) allows. That every
 -- call ends, for all bytes and lengths, is part of each proof: no call has a `requires`. `Bytes sheet` says that each element of the sheet is below 256,
 -- so it restricts nothing: C can hand over nothing else. Assumes nothing.
-use mathlib.Core.Path.{_≡_, sym, _∙_, ap, subst}
+use mathlib.Core.Path.{_≡_, sym, _∙_, ap, ap₂, subst}
 use mathlib.Core.Logic.{_⊎_, _↔_}
 use mathlib.Core.List.{List, _++_}
 use Prim.Native.Nat.{ℕ, _+_, _-_, _≤_, _<_}
@@ -26,17 +26,20 @@ use Rattle.reading.proofs.OtherLimits as OtherLimits
 use Rattle.exact.specs.Numbers.{at}
 use Rattle.rules.specs.Eliminate.{Result, cleared, resultOf, eliminate, eliminateIn, eliminateWithin, roomBytes}
 use Rattle.rules.specs.Eliminate as Eliminate
+use Rattle.rules.specs.Counts.{Counts}
 use Rattle.rules.specs.Test.{trueAt, Trial, tested, testedWithin}
 use Rattle.meaning.specs.Meaning.{Values, fractions, Equal, sumOf, Means}
 use Rattle.rules.specs.Variables.{Closed}
 use Rattle.rules.proofs.Answers as Answering
 use Rattle.rules.proofs.OtherLimits as Limiting
+use Rattle.rules.proofs.Counting as Counting
 use Rattle.meaning.proofs.Construction as Meanings
 use Rattle.meaning.proofs.Closed as Closing
 use Rattle.meaning.proofs.Values as Valuing
 use Rattle.meaning.proofs.Truth as Truth
-use Rattle.desk.specs.Promises.{gave, gaveTest, gavePlace, gavePart, Eliminates, EliminatesIn, TestsAt, ReadsAs, LooksAt}
+use Rattle.desk.specs.Promises.{gave, gaveTest, gavePlace, gavePart, shortened, Eliminates, EliminatesIn, CountsAlong, TestsAt, ReadsAs, LooksAt}
 use Rattle.desk.specs.declared.Reply.{Reply}
+use Rattle.desk.specs.declared.Counted.{Counted}
 use Rattle.desk.specs.declared.Tested.{Tested}
 use Rattle.desk.specs.declared.Place.{Place}
 use Rattle.desk.specs.declared.Part.{Part}
@@ -44,6 +47,9 @@ use Rattle.desk.specs.declared.Part.{Part}
 -- the definitions' records as C gets them
 abbrev reply : Result → Reply
 reply o = record { number = o .number; verdict = o .verdict; place = o .place; length = o .length }
+
+abbrev countedReply : Reply → Counts → Counted
+countedReply r c = record { number = r .number; verdict = r .verdict; place = r .place; length = r .length; steps = c .finished; terms = c .most }
 
 abbrev testReply : Trial → Tested
 testReply o = record { number = o .number; verdict = o .verdict; place = o .place }
@@ -114,6 +120,13 @@ module _ (sheet : List ℕ) (ok : Bytes sheet) where
   pub look-answers : (p : Part) → LooksAt sheet p → LookAnswers sheet p
   look-answers p e = subst (λ (o : Reading.Part). LookAnswers sheet (partReply o)) (sym e) (record { within = Looking.look-within sheet ok })
 
+-- vb_count: its reply and its buffers are vb_eliminate's, so all that is said of that call is said of this one; and no step that counts has more than 64 terms
+pub count-reply : (sheet out₀ work₀ out work : List ℕ) (r : Counted) → CountsAlong sheet out₀ work₀ r out work → Eliminates sheet out₀ work₀ (shortened r) out work
+count-reply sheet out₀ work₀ out work r e = e .0
+
+pub count-low : (sheet out₀ work₀ out work : List ℕ) (r : Counted) → CountsAlong sheet out₀ work₀ r out work → r .terms ≤ 64
+count-low sheet out₀ work₀ out work r e = subst (λ (c : Counts). c .most ≤ 64) (sym (e .1)) (Counting.counted-low sheet out₀ work₀)
+
 -- vb_eliminate_in: in a room of at least 524,288 bytes its promise is that of vb_eliminate, so whatever the room holds all that is said of that call, here
 -- and below, is said of this one
 pub in-room : (sheet out₀ work₀ room₀ out work room : List ℕ) (r : Reply) → roomBytes ≤ length room₀ → EliminatesIn sheet out₀ work₀ room₀ r out work room → Eliminates sheet out₀ work₀ r out work
@@ -160,6 +173,12 @@ one-elimination-in sheet out₀ work₀ room₀ room₁ r s a b c d x y l g h =
 pub same-elimination : (sheet out₀ work₀ room₀ : List ℕ) (r s : Reply) (a b c d room : List ℕ) → roomBytes ≤ length room₀ → Eliminates sheet out₀ work₀ r a b → EliminatesIn sheet out₀ work₀ room₀ s c d room
     → (r ≡ s) × (a ≡ c) × (b ≡ d)
 same-elimination sheet out₀ work₀ room₀ r s a b c d room l g h = one-elimination sheet out₀ work₀ r s a b c d g (in-room sheet out₀ work₀ room₀ c d room s l h)
+
+-- with what is counted
+pub one-count : (sheet out₀ work₀ : List ℕ) (r s : Counted) (a b c d : List ℕ) → CountsAlong sheet out₀ work₀ r a b → CountsAlong sheet out₀ work₀ s c d → (r ≡ s) × (a ≡ c) × (b ≡ d)
+one-count sheet out₀ work₀ r s a b c d g h =
+    let e = one-elimination sheet out₀ work₀ (shortened r) (shortened s) a b c d (g .0) (h .0) in
+    (ap₂ countedReply (e .0) (g .1 ∙ sym (h .1)), e .1, e .2)
 
 pub one-test : (sheet : List ℕ) (w : List ℤ) (s t : Tested) → TestsAt sheet w s → TestsAt sheet w t → s ≡ t
 one-test sheet w s t g h = ap testReply (g ∙ sym h)

@@ -11,8 +11,10 @@ use Rattle.reading.specs.Quantifiers.{lookPart}
 use Rattle.reading.specs.declared.Answer.{Answer}
 use Rattle.reading.specs.declared.Part as Reading
 use Rattle.rules.specs.Eliminate.{Result, eliminate, eliminateIn, roomBytes}
+use Rattle.rules.specs.Counts.{Counts, counted}
 use Rattle.rules.specs.Test.{tested, Trial}
 use Rattle.desk.specs.declared.Reply.{Reply}
+use Rattle.desk.specs.declared.Counted.{Counted}
 use Rattle.desk.specs.declared.Tested.{Tested}
 use Rattle.desk.specs.declared.Place.{Place}
 use Rattle.desk.specs.declared.Part.{Part}
@@ -29,6 +31,17 @@ Eliminates sheet out₀ work₀ r out work = gave r out work ≡ eliminate sheet
 
 abbrev pub EliminatesIn : List ℕ → List ℕ → List ℕ → List ℕ → Reply → List ℕ → List ℕ → List ℕ → Type 0
 EliminatesIn sheet out₀ work₀ room₀ r out work room = (gave r out work ≡ eliminateIn (length room₀) sheet out₀ work₀) × (drop roomBytes room ≡ drop roomBytes room₀)
+
+-- ---- vb_count: the same reply and buffers as vb_eliminate, and what is counted of the run
+
+abbrev pub gaveCounts : Counted → Counts
+gaveCounts r = record { finished = r .steps; most = r .terms }
+
+abbrev pub shortened : Counted → Reply
+shortened r = record { number = r .number; verdict = r .verdict; place = r .place; length = r .length }
+
+abbrev pub CountsAlong : List ℕ → List ℕ → List ℕ → Counted → List ℕ → List ℕ → Type 0
+CountsAlong sheet out₀ work₀ r out work = Eliminates sheet out₀ work₀ (shortened r) out work × (gaveCounts r ≡ counted sheet out₀ work₀)
 
 -- ---- vb_test, at the eight values and the denominator w
 

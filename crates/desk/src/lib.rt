@@ -1,6 +1,6 @@
 // The calls that C makes: each a line over the proved call below, with the same promise and no `requires`.
 ghost use mathlib.Core.List.{[], _∷_};
-ghost use Rattle.desk.specs.Promises.{Eliminates, EliminatesIn, TestsAt, ReadsAs, LooksAt};
+ghost use Rattle.desk.specs.Promises.{Eliminates, EliminatesIn, CountsAlong, TestsAt, ReadsAs, LooksAt};
 
 #[repr(C)]
 pub struct Reply {
@@ -8,6 +8,16 @@ pub struct Reply {
     pub verdict: u64,
     pub place: u64,
     pub length: u64,
+}
+
+#[repr(C)]
+pub struct Counted {
+    pub number: u64,
+    pub verdict: u64,
+    pub place: u64,
+    pub length: u64,
+    pub steps: u64,
+    pub terms: u64,
 }
 
 #[repr(C)]
@@ -40,6 +50,24 @@ pub extern "C" fn vb_eliminate(sheet: &[u8], result: &mut [u8], work: &mut [u8])
         verdict: done.verdict as u64,
         place: done.place as u64,
         length: done.length as u64,
+    }
+}
+
+// The same with the steps that are finished and the most boundary terms of a step that has at most 64.
+#[no_mangle]
+pub extern "C" fn vb_count(sheet: &[u8], result: &mut [u8], work: &mut [u8]) -> Counted
+    ensures { λ r. ⌜ CountsAlong (now (sheet .entry)) (now (result .entry)) (now (work .entry)) r (now (result .exit)) (now (work .exit)) ⌝ }
+{
+    let all = elimination::eliminate_counted(sheet, result, work);
+    let said = all.reply;
+    let tally = all.tally;
+    Counted {
+        number: said.number as u64,
+        verdict: said.verdict as u64,
+        place: said.place as u64,
+        length: said.length as u64,
+        steps: tally.steps as u64,
+        terms: tally.terms as u64,
     }
 }
 

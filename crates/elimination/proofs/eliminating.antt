@@ -1,4 +1,5 @@
 -- The elimination of a sheet.
 pub mod Delivery
 pub mod Carrying
+pub mod CountLaws
 pub mod OneReply

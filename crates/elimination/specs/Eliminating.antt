@@ -8,7 +8,10 @@ use Rattle.reading.specs.Formula.{Formula, Fits}
 use Rattle.reading.specs.Reading.{treeOf, Exactly}
 use Rattle.rules.specs.Steps.{eliminated}
 use Rattle.rules.specs.Eliminate.{Result, byRun, roomBytes}
-use Rattle.elimination.specs.Running.{Reached}
+use Rattle.rules.specs.Counts.{countsOf, uncounted}
+use Rattle.elimination.specs.Stepping.{held}
+use Rattle.elimination.specs.Running.{Reached, CountsAll, CountsLeft}
+use Rattle.elimination.specs.declared.Tally.{Tally}
 use Rattle.elimination.specs.declared.Reply.{Reply}
 use Rattle.elimination.specs.declared.Carried.{Carried}
 use Rattle.elimination.specs.declared.Carried.the-variants as Carried
@@ -33,3 +36,16 @@ abbrev pub Carries : Formula → ℕ → ℕ → List ℕ → List ℕ → List 
 Carries f m n result₀ result work₀ work (Carried.Done r) = Gives (byRun m (eliminated f) result₀ work₀) r result work
 Carries f m n result₀ result work₀ work (Carried.Short k) =
     Reached f k result × (drop resultBytes result ≡ drop resultBytes result₀) × (drop resultBytes work ≡ drop resultBytes work₀) × (n < roomBytes)
+
+-- what is counted with it, where t was counted before f
+abbrev pub CarriedCounts : Formula → Tally → List ℕ → Carried → Tally → Type 0
+CarriedCounts f t result (Carried.Done r) u = CountsAll f t u
+CarriedCounts f t result (Carried.Short k) u = CountsLeft f t k result u
+
+abbrev pub untallied : Tally
+untallied = record { steps = 0; terms = 0 }
+
+-- the finishing pass counts nothing: where it wants room, no step is left
+abbrev pub Uncounts : List ℕ → Carried → Type 0
+Uncounts result (Carried.Done r) = Unit {0}
+Uncounts result (Carried.Short k) = countsOf (held k result) ≡ uncounted

@@ -11,6 +11,8 @@ use Rattle.rules.specs.Steps.{ran, halted, eliminated}
 use Rattle.rules.specs.Eliminate.{roomBytes}
 use Rattle.elimination.specs.Stepping.{held, Stands}
 use Rattle.elimination.specs.declared.Ran.{Ran}
+use Rattle.elimination.specs.declared.Tally.{Tally}
+use Rattle.rules.specs.Counts.{Counts, countsOf, together}
 use Rattle.reading.specs.declared.Found.{Found}
 use Rattle.reading.specs.declared.Found.the-variants.{At, Nothing}
 use Rattle.elimination.specs.declared.Ran.the-variants as Ran
@@ -32,6 +34,23 @@ pub record Runs (f : Formula) (n : ℕ) (cur₀ cur work₀ work : List ℕ) (r 
   pub answer : RanTo f n cur r
   pub cur-rest : drop resultBytes cur ≡ drop resultBytes cur₀
   pub work-rest : drop resultBytes work ≡ drop resultBytes work₀
+
+-- ---- what is counted
+
+abbrev pub tallied : Tally → Counts
+tallied t = record { finished = t .steps; most = t .terms }
+
+-- where t was counted before f, u is counted with it: all of it, or what is left is counted from the formula in the first k bytes of cur on
+abbrev pub CountsLeft : Formula → Tally → ℕ → List ℕ → Tally → Type 0
+CountsLeft f t k cur u = together (tallied u) (countsOf (held k cur)) ≡ together (tallied t) (countsOf f)
+
+abbrev pub CountsAll : Formula → Tally → Tally → Type 0
+CountsAll f t u = tallied u ≡ together (tallied t) (countsOf f)
+
+abbrev pub RanCounts : Formula → Tally → List ℕ → Ran → Tally → Type 0
+RanCounts f t cur (Ran.Fine k) u = CountsAll f t u
+RanCounts f t cur (Ran.Refused e p) u = CountsAll f t u
+RanCounts f t cur (Ran.Short k) u = CountsLeft f t k cur u
 
 -- ---- the answers that the run asks for
 

@@ -1,8 +1,11 @@
 // The elimination of a sheet: what reading refuses, the run, the finishing pass, and what the buffers hold afterwards.
+use crate::Came;
 use crate::Carried;
+use crate::Counted;
 use crate::Finished;
 use crate::Ran;
 use crate::Reply;
+use crate::Tally;
 use crate::finishing;
 use crate::running;
 use reading::LIST_BYTES;
@@ -11,7 +14,7 @@ use reading::RESULT_BYTES;
 use reading::read_whole;
 ghost use mathlib.Core.Bool.{cond};
 ghost use mathlib.Core.Path.{_≡_};
-ghost use Prim.Native.Nat.{_≤_};
+ghost use Prim.Native.Nat.{_+_, _≤_};
 ghost use lib.Dec.{ltb};
 ghost use lib.ListN.{length, take, drop};
 ghost use Rattle.reading.specs.AnswerNumbers.{longResult};
@@ -20,9 +23,11 @@ ghost use Rattle.reading.specs.Reading.{treeOf, Exactly};
 ghost use Rattle.rules.specs.Lists.{known};
 ghost use Rattle.rules.specs.Levels.{Wide};
 ghost use Rattle.rules.specs.Steps.{eliminated};
+ghost use Rattle.rules.specs.Counts.{countsOf, counted};
 ghost use Rattle.elimination.specs.Stepping.{held, Stands};
 ghost use Rattle.elimination.specs.Finishing.{Unquantified};
-ghost use Rattle.elimination.specs.Eliminating.{Accepted, Gives, Carries, sheetRoom};
+ghost use Rattle.elimination.specs.Running.{tallied, CountsAll};
+ghost use Rattle.elimination.specs.Eliminating.{Accepted, Gives, Carries, CarriedCounts, Uncounts, untallied, sheetRoom};
 ghost use Rattle.rules.specs.Eliminate.{cleared, eliminate, eliminateIn, refused, delivered, verdictBy, byRun, roomBytes};
 
 // Room for the copies of a body, for a list up to six bytes longer than a result and then for a copy, which has at most seven times the bytes of the
@@ -104,7 +109,7 @@ fn ended(result: &mut [u8], work: &mut [u8], room: &mut [u8], len: usize, sheet:
     requires { ⌜ Unquantified len (now result) ⌝ }
     requires { ⌜ Wide resultLevels (held len (now result)) ⌝ }
     requires { ⌜ resultBytes ≤ length (now work) ⌝ }
-    ensures { λ r. ⌜ Carries (held len (now (result .entry))) sheet (length (now (room .entry))) (now (result .entry)) (now (result .exit)) (now (work .entry)) (now (work .exit)) r ⌝ }
+    ensures { λ r. ⌜ Carries (held len (now (result .entry))) sheet (length (now (room .entry))) (now (result .entry)) (now (result .exit)) (now (work .entry)) (now (work .exit)) r × Uncounts (now (result .exit)) r ⌝ }
 {
     let f = finishing::finish(result, work, room, len);
     match f {
@@ -113,126 +118,198 @@ fn ended(result: &mut [u8], work: &mut [u8], room: &mut [u8], len: usize, sheet:
     }
 }
 
+// How far an elimination came, with what was counted.
+fn came(carried: Carried, tally: Tally) -> Came
+    ensures { λ r. ⌜ (r .carried ≡ carried) × (r .tally ≡ tally) ⌝ }
+{
+    Came {
+        carried: carried,
+        tally: tally,
+    }
+}
+
+// A reply with what was counted.
+fn counted(reply: Reply, tally: Tally) -> Counted
+    ensures { λ r. ⌜ (r .reply ≡ reply) × (r .tally ≡ tally) ⌝ }
+{
+    Counted {
+        reply: reply,
+        tally: tally,
+    }
+}
+
+// Nothing was counted.
+fn nothing() -> Tally
+    ensures { λ t. ⌜ t ≡ record { steps = 0; terms = 0 } ⌝ }
+{
+    Tally { steps: 0, terms: 0 }
+}
+
 // What is left of an elimination, once the formula in the first len bytes of the result buffer is reached.
-fn carried(result: &mut [u8], work: &mut [u8], room: &mut [u8], len: usize, sheet: usize) -> Carried
+fn carried(
+    result: &mut [u8],
+    work: &mut [u8],
+    room: &mut [u8],
+    len: usize,
+    sheet: usize,
+    t: Tally,
+) -> Came
     requires { ⌜ Stands len (now result) ⌝ }
     requires { ⌜ Wide resultLevels (held len (now result)) ⌝ }
     requires { ⌜ resultBytes ≤ length (now work) ⌝ }
-    ensures { λ r. ⌜ Carries (held len (now (result .entry))) sheet (length (now (room .entry))) (now (result .entry)) (now (result .exit)) (now (work .entry)) (now (work .exit)) r ⌝ }
+    requires { ⌜ t .steps + countsOf (held len (now result)) .finished ≤ resultBytes ⌝ }
+    ensures { λ r. ⌜ Carries (held len (now (result .entry))) sheet (length (now (room .entry))) (now (result .entry)) (now (result .exit)) (now (work .entry)) (now (work .exit)) (r .carried) × CarriedCounts (held len (now (result .entry))) t (now (result .exit)) (r .carried) (r .tally) ⌝ }
 {
-    let r = running::steps(result, work, room, len);
-    match r {
-        Ran::Short(n) => Carried::Short(n),
-        Ran::Refused(number, place) => Carried::Done(stopped(result, work, number, place)),
-        Ran::Fine(n) => ended(result, work, room, n, sheet),
+    let r = running::steps(result, work, room, len, t);
+    let u = r.tally;
+    let w = r.ran;
+    match w {
+        Ran::Short(n) => came(Carried::Short(n), u),
+        Ran::Refused(number, place) => came(Carried::Done(stopped(result, work, number, place)), u),
+        Ran::Fine(n) => came(ended(result, work, room, n, sheet), u),
     }
 }
 
 // The same in a room of its own, as a formula of up to 4,680 bytes asks for.
-fn carried_near(result: &mut [u8], work: &mut [u8], len: usize, sheet: usize) -> Carried
+fn carried_near(result: &mut [u8], work: &mut [u8], len: usize, sheet: usize, t: Tally) -> Came
     requires { ⌜ Stands len (now result) ⌝ }
     requires { ⌜ Wide resultLevels (held len (now result)) ⌝ }
     requires { ⌜ resultBytes ≤ length (now work) ⌝ }
-    ensures { λ r. ⌜ Carries (held len (now (result .entry))) sheet sheetRoom (now (result .entry)) (now (result .exit)) (now (work .entry)) (now (work .exit)) r ⌝ }
+    requires { ⌜ t .steps + countsOf (held len (now result)) .finished ≤ resultBytes ⌝ }
+    ensures { λ r. ⌜ Carries (held len (now (result .entry))) sheet sheetRoom (now (result .entry)) (now (result .exit)) (now (work .entry)) (now (work .exit)) (r .carried) × CarriedCounts (held len (now (result .entry))) t (now (result .exit)) (r .carried) (r .tally) ⌝ }
 {
     let mut room = [0u8; NEAR_ROOM];
-    carried(result, work, &mut room, len, sheet)
+    carried(result, work, &mut room, len, sheet, t)
 }
 
 // Of up to 9,361 bytes.
-fn carried_middle(result: &mut [u8], work: &mut [u8], len: usize, sheet: usize) -> Carried
+fn carried_middle(result: &mut [u8], work: &mut [u8], len: usize, sheet: usize, t: Tally) -> Came
     requires { ⌜ Stands len (now result) ⌝ }
     requires { ⌜ Wide resultLevels (held len (now result)) ⌝ }
     requires { ⌜ resultBytes ≤ length (now work) ⌝ }
-    ensures { λ r. ⌜ Carries (held len (now (result .entry))) sheet sheetRoom (now (result .entry)) (now (result .exit)) (now (work .entry)) (now (work .exit)) r ⌝ }
+    requires { ⌜ t .steps + countsOf (held len (now result)) .finished ≤ resultBytes ⌝ }
+    ensures { λ r. ⌜ Carries (held len (now (result .entry))) sheet sheetRoom (now (result .entry)) (now (result .exit)) (now (work .entry)) (now (work .exit)) (r .carried) × CarriedCounts (held len (now (result .entry))) t (now (result .exit)) (r .carried) (r .tally) ⌝ }
 {
     let mut room = [0u8; MIDDLE_ROOM];
-    carried(result, work, &mut room, len, sheet)
+    carried(result, work, &mut room, len, sheet, t)
 }
 
 // Of up to 18,723 bytes.
-fn carried_far(result: &mut [u8], work: &mut [u8], len: usize, sheet: usize) -> Carried
+fn carried_far(result: &mut [u8], work: &mut [u8], len: usize, sheet: usize, t: Tally) -> Came
     requires { ⌜ Stands len (now result) ⌝ }
     requires { ⌜ Wide resultLevels (held len (now result)) ⌝ }
     requires { ⌜ resultBytes ≤ length (now work) ⌝ }
-    ensures { λ r. ⌜ Carries (held len (now (result .entry))) sheet sheetRoom (now (result .entry)) (now (result .exit)) (now (work .entry)) (now (work .exit)) r ⌝ }
+    requires { ⌜ t .steps + countsOf (held len (now result)) .finished ≤ resultBytes ⌝ }
+    ensures { λ r. ⌜ Carries (held len (now (result .entry))) sheet sheetRoom (now (result .entry)) (now (result .exit)) (now (work .entry)) (now (work .exit)) (r .carried) × CarriedCounts (held len (now (result .entry))) t (now (result .exit)) (r .carried) (r .tally) ⌝ }
 {
     let mut room = [0u8; SHEET_ROOM];
-    carried(result, work, &mut room, len, sheet)
+    carried(result, work, &mut room, len, sheet, t)
 }
 
 // The same in the least of these rooms that is enough for all copies of a formula that is no longer than a sheet. A longer one begins with the smallest:
 // its last quantifier may stand over a short part of it.
-fn carried_on(result: &mut [u8], work: &mut [u8], len: usize, sheet: usize) -> Carried
+fn carried_on(result: &mut [u8], work: &mut [u8], len: usize, sheet: usize, t: Tally) -> Came
     requires { ⌜ Stands len (now result) ⌝ }
     requires { ⌜ Wide resultLevels (held len (now result)) ⌝ }
     requires { ⌜ resultBytes ≤ length (now work) ⌝ }
-    ensures { λ r. ⌜ Carries (held len (now (result .entry))) sheet sheetRoom (now (result .entry)) (now (result .exit)) (now (work .entry)) (now (work .exit)) r ⌝ }
+    requires { ⌜ t .steps + countsOf (held len (now result)) .finished ≤ resultBytes ⌝ }
+    ensures { λ r. ⌜ Carries (held len (now (result .entry))) sheet sheetRoom (now (result .entry)) (now (result .exit)) (now (work .entry)) (now (work .exit)) (r .carried) × CarriedCounts (held len (now (result .entry))) t (now (result .exit)) (r .carried) (r .tally) ⌝ }
 {
     let most = RESULT_BYTES + LIST_BYTES + 7 * len;
     if most <= NEAR_ROOM {
-        return carried_near(result, work, len, sheet);
+        return carried_near(result, work, len, sheet, t);
     }
     if most <= MIDDLE_ROOM {
-        return carried_middle(result, work, len, sheet);
+        return carried_middle(result, work, len, sheet, t);
     }
     if most <= SHEET_ROOM {
-        return carried_far(result, work, len, sheet);
+        return carried_far(result, work, len, sheet, t);
     }
-    carried_near(result, work, len, sheet)
+    carried_near(result, work, len, sheet, t)
 }
 
 // The same in as much room as any formula asks for.
-fn carried_out(result: &mut [u8], work: &mut [u8], len: usize, sheet: usize) -> Reply
+fn carried_out(result: &mut [u8], work: &mut [u8], len: usize, sheet: usize, t: Tally) -> Counted
     requires { ⌜ Stands len (now result) ⌝ }
     requires { ⌜ Wide resultLevels (held len (now result)) ⌝ }
     requires { ⌜ resultBytes ≤ length (now work) ⌝ }
-    ensures { λ r. ⌜ Gives (byRun sheet (eliminated (held len (now (result .entry)))) (now (result .entry)) (now (work .entry))) r (now (result .exit)) (now (work .exit)) ⌝ }
+    requires { ⌜ t .steps + countsOf (held len (now result)) .finished ≤ resultBytes ⌝ }
+    ensures { λ r. ⌜ Gives (byRun sheet (eliminated (held len (now (result .entry)))) (now (result .entry)) (now (work .entry))) (r .reply) (now (result .exit)) (now (work .exit)) × CountsAll (held len (now (result .entry))) t (r .tally) ⌝ }
 {
     let mut room = [0u8; ROOM];
-    match carried(result, work, &mut room, len, sheet) {
-        Carried::Done(r) => r,
-        Carried::Short(_) => refused(0, 0),
+    let c = carried(result, work, &mut room, len, sheet, t);
+    let u = c.tally;
+    let w = c.carried;
+    match w {
+        Carried::Done(r) => counted(r, u),
+        Carried::Short(_) => counted(refused(0, 0), u),
     }
 }
 
 // The elimination of a sheet that reading accepts, as far as the room allows.
-fn begun(sheet: &[u8], result: &mut [u8], work: &mut [u8], room: &mut [u8]) -> Carried
+fn begun(sheet: &[u8], result: &mut [u8], work: &mut [u8], room: &mut [u8]) -> Came
     requires { ⌜ Accepted (now sheet) ⌝ }
     requires { ⌜ (resultBytes ≤ length (now result)) × (resultBytes ≤ length (now work)) ⌝ }
-    ensures { λ r. ⌜ Carries (treeOf (now (sheet .entry))) (length (now (sheet .entry))) (length (now (room .entry))) (now (result .entry)) (now (result .exit)) (now (work .entry)) (now (work .exit)) r ⌝ }
+    ensures { λ r. ⌜ Carries (treeOf (now (sheet .entry))) (length (now (sheet .entry))) (length (now (room .entry))) (now (result .entry)) (now (result .exit)) (now (work .entry)) (now (work .exit)) (r .carried) × CarriedCounts (treeOf (now (sheet .entry))) untallied (now (result .exit)) (r .carried) (r .tally) ⌝ }
 {
     writing::paste(result, 0, sheet, 0, sheet.len());
-    carried(result, work, room, sheet.len(), sheet.len())
+    carried(result, work, room, sheet.len(), sheet.len(), nothing())
 }
 
 // The elimination of a sheet that reading accepts: with no room beside the work buffer, and with more where that is too little. To clear room takes
 // longer than most steps.
-fn accepted(sheet: &[u8], result: &mut [u8], work: &mut [u8]) -> Reply
+fn accepted(sheet: &[u8], result: &mut [u8], work: &mut [u8]) -> Counted
     requires { ⌜ Accepted (now sheet) ⌝ }
     requires { ⌜ (resultBytes ≤ length (now result)) × (resultBytes ≤ length (now work)) ⌝ }
-    ensures { λ r. ⌜ Gives (byRun (length (now (sheet .entry))) (eliminated (treeOf (now (sheet .entry)))) (now (result .entry)) (now (work .entry))) r (now (result .exit)) (now (work .exit)) ⌝ }
+    ensures { λ r. ⌜ Gives (byRun (length (now (sheet .entry))) (eliminated (treeOf (now (sheet .entry)))) (now (result .entry)) (now (work .entry))) (r .reply) (now (result .exit)) (now (work .exit)) × CountsAll (treeOf (now (sheet .entry))) untallied (r .tally) ⌝ }
 {
     let mut none = [0u8; 1];
-    match begun(sheet, result, work, &mut none) {
-        Carried::Done(r) => r,
-        Carried::Short(n) => match carried_on(result, work, n, sheet.len()) {
-            Carried::Done(r) => r,
-            Carried::Short(m) => carried_out(result, work, m, sheet.len()),
-        },
+    let c = begun(sheet, result, work, &mut none);
+    let u = c.tally;
+    let w = c.carried;
+    match w {
+        Carried::Done(r) => counted(r, u),
+        Carried::Short(n) => {
+            let d = carried_on(result, work, n, sheet.len(), u);
+            let v = d.tally;
+            let x = d.carried;
+            match x {
+                Carried::Done(r) => counted(r, v),
+                Carried::Short(m) => carried_out(result, work, m, sheet.len(), v),
+            }
+        }
     }
 }
 
 // The same in the caller's room.
-fn accepted_in(sheet: &[u8], result: &mut [u8], work: &mut [u8], room: &mut [u8]) -> Reply
+fn accepted_in(sheet: &[u8], result: &mut [u8], work: &mut [u8], room: &mut [u8]) -> Counted
     requires { ⌜ Accepted (now sheet) ⌝ }
     requires { ⌜ (resultBytes ≤ length (now result)) × (resultBytes ≤ length (now work)) ⌝ }
     requires { ⌜ roomBytes ≤ length (now room) ⌝ }
-    ensures { λ r. ⌜ Gives (byRun (length (now (sheet .entry))) (eliminated (treeOf (now (sheet .entry)))) (now (result .entry)) (now (work .entry))) r (now (result .exit)) (now (work .exit)) ⌝ }
+    ensures { λ r. ⌜ Gives (byRun (length (now (sheet .entry))) (eliminated (treeOf (now (sheet .entry)))) (now (result .entry)) (now (work .entry))) (r .reply) (now (result .exit)) (now (work .exit)) × CountsAll (treeOf (now (sheet .entry))) untallied (r .tally) ⌝ }
 {
-    match begun(sheet, result, work, room) {
-        Carried::Done(r) => r,
-        Carried::Short(_) => refused(0, 0),
+    let c = begun(sheet, result, work, room);
+    let u = c.tally;
+    let w = c.carried;
+    match w {
+        Carried::Done(r) => counted(r, u),
+        Carried::Short(_) => counted(refused(0, 0), u),
+    }
+}
+
+// The elimination of all quantifiers of a sheet, with what was counted.
+pub fn eliminate_counted(sheet: &[u8], result: &mut [u8], work: &mut [u8]) -> Counted
+    ensures { λ r. ⌜ Gives (eliminate (now (sheet .entry)) (now (result .entry)) (now (work .entry))) (r .reply) (now (result .exit)) (now (work .exit)) × (tallied (r .tally) ≡ counted (now (sheet .entry)) (now (result .entry)) (now (work .entry))) ⌝ }
+{
+    if result.len() < RESULT_BYTES {
+        return counted(refused(1, 0), nothing());
+    }
+    if work.len() < RESULT_BYTES {
+        return counted(refused(1, 0), nothing());
+    }
+    match read_whole(sheet, Limit::Sheet) {
+        reading::Reply::Refused(number, place) => counted(refused(number, place), nothing()),
+        reading::Reply::Done(_) => accepted(sheet, result, work),
     }
 }
 
@@ -240,16 +317,8 @@ fn accepted_in(sheet: &[u8], result: &mut [u8], work: &mut [u8], room: &mut [u8]
 pub fn eliminate(sheet: &[u8], result: &mut [u8], work: &mut [u8]) -> Reply
     ensures { λ r. ⌜ Gives (eliminate (now (sheet .entry)) (now (result .entry)) (now (work .entry))) r (now (result .exit)) (now (work .exit)) ⌝ }
 {
-    if result.len() < RESULT_BYTES {
-        return refused(1, 0);
-    }
-    if work.len() < RESULT_BYTES {
-        return refused(1, 0);
-    }
-    match read_whole(sheet, Limit::Sheet) {
-        reading::Reply::Refused(number, place) => refused(number, place),
-        reading::Reply::Done(_) => accepted(sheet, result, work),
-    }
+    let c = eliminate_counted(sheet, result, work);
+    c.reply
 }
 
 // How much room any formula asks for, by a call: a proof then meets its answer and not the number, half a million times one.
@@ -275,6 +344,9 @@ pub fn eliminate_in(sheet: &[u8], result: &mut [u8], work: &mut [u8], room: &mut
     }
     match read_whole(sheet, Limit::Sheet) {
         reading::Reply::Refused(number, place) => refused(number, place),
-        reading::Reply::Done(_) => accepted_in(sheet, result, work, &mut room[..least]),
+        reading::Reply::Done(_) => {
+            let c = accepted_in(sheet, result, work, &mut room[..least]);
+            c.reply
+        }
     }
 }

@@ -1,5 +1,6 @@
 // One step over the formula in a buffer: the last quantifier is replaced, body and all, and the bytes after it move to where the replacement ends.
 use crate::Stepped;
+use crate::Turn;
 use reading::LIST_BYTES;
 use reading::QUANTIFIER_BYTES;
 use reading::RESULT_BYTES;
@@ -14,6 +15,7 @@ ghost use Rattle.reading.specs.Limits.{resultBytes, mostTerms};
 ghost use Rattle.reading.specs.Quantifiers.{lastIn, foundOf};
 ghost use Rattle.reading.specs.declared.Found.the-variants.{At};
 ghost use Rattle.rules.specs.Points.{points, terms};
+ghost use Rattle.rules.specs.Counts.{termsAt};
 ghost use Rattle.elimination.specs.Stepping.{held, Stands, Tried, Steps, Poised, Places, Splices, Joins};
 
 // Room for the marks of any body.
@@ -174,23 +176,30 @@ fn step_with(
 }
 
 // The step at the last quantifier, at o, of the formula in the first len bytes of cur.
-pub fn one_step(cur: &mut [u8], work: &mut [u8], room: &mut [u8], len: usize, o: usize) -> Stepped
+pub fn one_step(cur: &mut [u8], work: &mut [u8], room: &mut [u8], len: usize, o: usize) -> Turn
     requires { ⌜ Stands len (now cur) ⌝ }
     requires { ⌜ resultBytes ≤ length (now work) ⌝ }
     requires { ⌜ foundOf (lastIn (held len (now cur))) ≡ At o ⌝ }
-    ensures { λ r. ⌜ Steps (held len (now (cur .entry))) (length (now (room .entry))) (now (cur .entry)) (now (cur .exit)) (now (work .entry)) (now (work .exit)) r ⌝ }
+    ensures { λ r. ⌜ Steps (held len (now (cur .entry))) (length (now (room .entry))) (now (cur .entry)) (now (cur .exit)) (now (work .entry)) (now (work .exit)) (r .stepped) × (r .terms ≡ termsAt (lastIn (held len (now (cur .entry))))) ⌝ }
 {
     let b = binder_at(&cur[o..len]);
     let from = o + QUANTIFIER_BYTES;
     let mut ts = [0i64; 640];
     let g = replacement::gather(&cur[from..len], b.variable, &mut ts, 0);
     match g {
-        Gathered::Full => Stepped::Refused(10),
+        Gathered::Full => Turn {
+            stepped: Stepped::Refused(10),
+            terms: 0,
+        },
         Gathered::Fine(used, n) => {
             let mut marks = [0u8; MARKS];
             let e = from + used;
             let body = replacement::body_of(&cur[from..e], b.variable, n, &mut marks);
-            step_with(cur, work, room, len, o, b.every, body, &ts, n, &marks)
+            let r = step_with(cur, work, room, len, o, b.every, body, &ts, n, &marks);
+            Turn {
+                stepped: r,
+                terms: n,
+            }
         }
     }
 }

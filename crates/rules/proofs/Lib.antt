@@ -4,6 +4,7 @@ pub mod Limits
 pub mod PushedTerms
 pub mod Tame
 pub mod Stepwise
+pub mod Counting
 pub mod Answers
 pub mod OtherLimits
 pub mod StarredEnds

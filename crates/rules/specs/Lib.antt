@@ -6,6 +6,7 @@ pub mod Lists
 pub mod Copies
 pub mod Steps
 pub mod Eliminate
+pub mod Counts
 pub mod Test
 pub mod Levels
 pub mod Tame

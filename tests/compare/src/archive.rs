@@ -12,6 +12,18 @@ pub struct Reply {
     pub length: u64,
 }
 
+/// A reply with the counts of #102: steps finished, and the most boundary terms in any step that got past answer 10.
+#[repr(C)]
+#[derive(Clone, Copy, Debug, PartialEq, Eq)]
+pub struct Counted {
+    pub number: u64,
+    pub verdict: u64,
+    pub place: u64,
+    pub length: u64,
+    pub steps: u64,
+    pub terms: u64,
+}
+
 #[repr(C)]
 #[derive(Clone, Copy, Debug, PartialEq, Eq)]
 pub struct Tested {
@@ -27,6 +39,7 @@ pub struct Pair(pub u64, pub u64);
 extern "C" {
     fn vb_eliminate(sheet: *const u8, n: usize, result: *mut u8, r: usize, work: *mut u8, w: usize) -> Reply;
     fn vb_eliminate_in(sheet: *const u8, n: usize, result: *mut u8, r: usize, work: *mut u8, w: usize, room: *mut u8, m: usize) -> Reply;
+    fn vb_count(sheet: *const u8, n: usize, result: *mut u8, r: usize, work: *mut u8, w: usize) -> Counted;
     fn vb_test(sheet: *const u8, n: usize, p0: i64, p1: i64, p2: i64, p3: i64, p4: i64, p5: i64, p6: i64, p7: i64, q: i64) -> Tested;
     fn vb_read(sheet: *const u8, n: usize) -> Pair;
     fn vb_look(sheet: *const u8, n: usize) -> Pair;
@@ -75,6 +88,10 @@ pub fn eliminate_in(sheet: &[u8], result: &mut [u8], work: &mut [u8], room: &mut
     unsafe {
         vb_eliminate_in(sheet.as_ptr(), sheet.len(), result.as_mut_ptr(), result.len(), work.as_mut_ptr(), work.len(), room.as_mut_ptr(), room.len())
     }
+}
+
+pub fn count(sheet: &[u8], result: &mut [u8], work: &mut [u8]) -> Counted {
+    unsafe { vb_count(sheet.as_ptr(), sheet.len(), result.as_mut_ptr(), result.len(), work.as_mut_ptr(), work.len()) }
 }
 
 pub fn test(sheet: &[u8], w: [i64; 9]) -> Tested {

@@ -1,6 +1,7 @@
 //! The archive, called as C calls it.
-//!     compare agree [COUNT [SEED]]   COUNT random sheets through the archive and the second program: number, verdict, place, length and every byte of
-//!                                    both buffers must agree, and so must reading, look and test. A difference ends the run and saves the sheet.
+//!     compare agree [COUNT [SEED]]   COUNT random sheets through the archive and the second program: number, verdict, place, length, steps, terms and
+//!                                    every byte of both buffers must agree, and so must reading, look and test. A difference ends the run and saves
+//!                                    the sheet.
 //!     compare storm CALLS SEED       random bytes through every export; nothing is compared, but nothing may be touched that is not the caller's
 //!     compare deliver < CASES        a line a case (its length in four bytes, then its bytes): answer, verdict, place, length, result in hex
 
@@ -43,8 +44,8 @@ fn length(r: &mut Random) -> usize {
     }
 }
 
-/// A reply of the archive and its buffers, against the second program's.
-fn same(sheet: &[u8], room: &mut Room, mine: archive::Reply, expected: archive::Reply, result: &[u8], work: &[u8]) {
+/// A reply of the archive, with counts or without, and its buffers, against the second program's.
+fn same<R: PartialEq + std::fmt::Debug>(sheet: &[u8], room: &mut Room, mine: R, expected: R, result: &[u8], work: &[u8]) {
     if mine != expected {
         println!("archive {mine:?}, second {expected:?}");
         differ(sheet, "the reply");
@@ -60,19 +61,26 @@ fn same(sheet: &[u8], room: &mut Room, mine: archive::Reply, expected: archive::
     }
 }
 
-fn eliminations(r: &mut Random, room: &mut Room, sheet: &[u8]) -> (u64, Vec<u8>) {
+/// The elimination in its three calls; gives back the reply with its counts, and the result.
+fn eliminations(r: &mut Random, room: &mut Room, sheet: &[u8]) -> (archive::Counted, Vec<u8>) {
     let fill = r.next() as u8;
     let before = (vec![fill; length(r)], vec![!fill; length(r)]);
     let (mut result, mut work) = before.clone();
-    let other = second::eliminate(sheet, &mut result, &mut work);
-    let expected = archive::Reply {
+    let (other, counts) = second::counted(sheet, &mut result, &mut work);
+    let counted = archive::Counted {
         number: other.number.into(),
         verdict: other.verdict.into(),
         place: other.place as u64,
         length: other.length as u64,
+        steps: counts.steps as u64,
+        terms: counts.terms as u64,
     };
+    let archive::Counted { number, verdict, place, length, .. } = counted;
+    let expected = archive::Reply { number, verdict, place, length };
     let mine = archive::eliminate(room.sheet.filled(sheet), room.result.filled(&before.0), room.work.filled(&before.1));
     same(sheet, room, mine, expected, &result, &work);
+    let mine = archive::count(room.sheet.filled(sheet), room.result.filled(&before.0), room.work.filled(&before.1));
+    same(sheet, room, mine, counted, &result, &work);
 
     // the same in a room that holds what the last call left there, or too short a one
     let extra = if r.once_in(10) { r.below(5000) as usize } else { 0 };
@@ -89,7 +97,7 @@ fn eliminations(r: &mut Random, room: &mut Room, sheet: &[u8]) -> (u64, Vec<u8>)
         differ(sheet, "the room past its first 524,288 bytes");
     }
     result.truncate(other.length);
-    (expected.number, result)
+    (counted, result)
 }
 
 fn readings(room: &mut Room, sheet: &[u8]) {
@@ -129,10 +137,14 @@ fn agree(count: u64, seed: u64) {
     let mut room = Room::new();
     let mut answers = [0u64; 15];
     let mut truths = [0u64; 4];
+    let (mut steps, mut terms) = (0, 0);
     for _ in 0..count {
         let sheet = sheets::sheet(&mut r);
-        let (number, result) = eliminations(&mut r, &mut room, &sheet);
+        let (counted, result) = eliminations(&mut r, &mut room, &sheet);
+        let number = counted.number;
         answers[number as usize] += 1;
+        steps = steps.max(counted.steps);
+        terms = terms.max(counted.terms);
         readings(&mut room, &sheet);
         tests(&mut r, &mut room, &sheet);
         if number == 0 {
@@ -141,6 +153,7 @@ fn agree(count: u64, seed: u64) {
         }
     }
     println!("{count} sheets agree; answers 0 to 12: {:?}; results tested false, true and refused: {}, {}, {}", &answers[..13], truths[0], truths[1], truths[3]);
+    println!("the most steps of a sheet: {steps}, the most boundary terms of a step: {terms}");
     if count >= 3000 && answers[..13].contains(&0) {
         println!("an answer from 0 to 12 was never met");
         std::process::exit(1);
@@ -160,10 +173,11 @@ fn storm(calls: u64, seed: u64) {
         archive::test(bytes, std::array::from_fn(|_| r.next() as i64 >> r.below(63)));
         let length = if r.once_in(50) { BUFFER } else { r.below(BUFFER as u64) as usize };
         archive::eliminate(bytes, room.result.slice(length), room.work.slice(length));
+        archive::count(bytes, room.result.slice(length), room.work.slice(length));
         let copies = if r.once_in(2) { ROOM } else { r.below(ROOM as u64) as usize };
         archive::eliminate_in(bytes, room.result.slice(length), room.work.slice(length), room.copies.slice(copies));
         assert!(room.sheet.slice(sheet.len()) == &sheet[..], "a sheet was written to");
-        done += 5;
+        done += 6;
     }
     println!("{done} calls on random bytes, each with a reply");
 }

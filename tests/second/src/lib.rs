@@ -1,6 +1,6 @@
-//! The second program: document 01 once more, over trees and wide integers, to compare the proved one with.
-//! It is written from the text of 01 alone and shares no line with the other; where the two differ, 01 decides.
-//! The modules stand in the order of 01's headings.
+//! The second program: document 01 once more, with the requests of 02 that landed, over trees and wide integers, to
+//! compare the proved one with. It is written from the text of 01 and 02 alone and shares no line with the other; where
+//! the two differ, 01 and 02 decide. The modules stand in the order of 01's headings, then of 02's requests.
 
 pub mod limits;
 pub mod sheet;
@@ -19,7 +19,10 @@ pub mod eliminating;
 pub mod looking;
 pub mod testing;
 
-pub use eliminating::eliminate;
+pub mod boxes;
+
+pub use boxes::monday;
+pub use eliminating::{counted, eliminate};
 pub use looking::look;
 pub use reading::read;
 pub use testing::test;

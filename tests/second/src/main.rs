@@ -2,6 +2,8 @@
 //!
 //!     second verdict < SHEET             answer verdict place length
 //!     second result < SHEET              the same line, then the result in hex
+//!     second count < SHEET               answer verdict place length steps terms
+//!     second monday < BOXES              the Monday list
 //!     second read BYTES LEVELS < SHEET   number place
 //!     second look < SHEET                at length
 //!     second test P0,..,P7,Q < SHEET     number verdict place
@@ -12,9 +14,9 @@
 //! A case is four bytes of length and then that many bytes of sheet; in a file for `tests` nine numbers
 //! of eight bytes follow each sheet. All numbers are little-endian, those of eight bytes signed.
 
-use second::eliminating::Reply;
+use second::eliminating::{Counts, Reply};
 use second::limits::{LOOK_BYTES, LOOK_LEVELS, RESULT_BYTES, SHEET_BYTES, SHEET_LEVELS};
-use second::{eliminate, look, read, test};
+use second::{counted, look, monday, read, test};
 use std::fmt::Write as _;
 use std::io::{Read, Write};
 
@@ -27,9 +29,14 @@ fn main() {
     let text = match words[..] {
         ["verdict"] => reply_line(&elimination(&standard_input()).0),
         ["result"] => {
-            let (reply, result) = elimination(&standard_input());
+            let (reply, _, result) = elimination(&standard_input());
             format!("{}\n{}", reply_line(&reply), hex(&result))
         }
+        ["count"] => {
+            let (reply, counts, _) = elimination(&standard_input());
+            format!("{} {} {}", reply_line(&reply), counts.steps, counts.terms)
+        }
+        ["monday"] => monday(&standard_input()).trim_end().to_string(),
         ["read", bytes, levels] => {
             let bytes = bytes.parse().unwrap_or_else(|_| usage());
             let levels = levels.parse().unwrap_or_else(|_| usage());
@@ -63,10 +70,10 @@ fn standard_input() -> Vec<u8> {
 }
 
 /// Runs the elimination and checks on the way that the buffers are as 01 says.
-fn elimination(sheet: &[u8]) -> (Reply, Vec<u8>) {
+fn elimination(sheet: &[u8]) -> (Reply, Counts, Vec<u8>) {
     let mut result = vec![0xaa; RESULT_BYTES + 8];
     let mut work = vec![0xbb; RESULT_BYTES + 8];
-    let reply = eliminate(sheet, &mut result, &mut work);
+    let (reply, counts) = counted(sheet, &mut result, &mut work);
     let zeroed = reply.number == 0 || reply.number >= 10;
     let expected = |untouched| if zeroed { 0 } else { untouched };
     assert!(result[reply.length..RESULT_BYTES].iter().all(|&byte| byte == expected(0xaa)));
@@ -74,7 +81,7 @@ fn elimination(sheet: &[u8]) -> (Reply, Vec<u8>) {
     assert!(result[RESULT_BYTES..].iter().all(|&byte| byte == 0xaa));
     assert!(work[RESULT_BYTES..].iter().all(|&byte| byte == 0xbb));
     result.truncate(reply.length);
-    (reply, result)
+    (reply, counts, result)
 }
 
 fn cases(operation: &str, bytes: &[u8]) -> String {
@@ -120,7 +127,7 @@ fn readings_line(sheet: &[u8]) -> String {
 }
 
 fn elimination_line(sheet: &[u8]) -> String {
-    let (reply, result) = elimination(sheet);
+    let (reply, _, result) = elimination(sheet);
     let line = reply_line(&reply);
     if result.is_empty() {
         line
@@ -158,7 +165,7 @@ fn checksum(bytes: &[u8]) -> u64 {
 }
 
 fn usage() -> ! {
-    fail("use: second verdict | result | look | read BYTES LEVELS | test P0,..,P7,Q | cases readings|eliminations|tests FILE")
+    fail("use: second verdict | result | count | monday | look | read BYTES LEVELS | test P0,..,P7,Q | cases readings|eliminations|tests FILE")
 }
 
 fn fail(message: &str) -> ! {

@@ -8,23 +8,44 @@ use crate::points::{point_in_range, points};
 use crate::pushing::pushed;
 use crate::reading::Refusal;
 use crate::sheet::{Formula, List, Quantifier};
-use crate::terms::boundary_terms;
+use crate::terms::{boundary_terms, Term};
 
-/// Does one step; says whether there was a quantifier.
-pub fn step(formula: &mut Formula) -> Result<bool, Refusal> {
+/// What came of a step. `terms` is how many boundary terms it had.
+pub enum Step {
+    /// No quantifier was left.
+    Nothing,
+    Finished {
+        terms: usize,
+    },
+    /// A step refused with 10 shows no terms; one refused with 11 or 12 got past 10 and shows them.
+    Refused {
+        refusal: Refusal,
+        terms: usize,
+    },
+}
+
+/// Does one step.
+pub fn step(formula: &mut Formula) -> Step {
     let whole = formula.length();
     let Some((quantified, place)) = last_quantifier(formula, 0) else {
-        return Ok(false);
+        return Step::Nothing;
     };
-    let refuse = |number| Refusal { number, place };
+    let refused = |number, terms| Step::Refused { refusal: Refusal { number, place }, terms };
     let Formula::Quantified(quantifier, x, body) = &*quantified else { unreachable!() };
     let outside = whole - quantified.length();
-    let replaced = replacement(*quantifier, *x, body).map_err(refuse)?;
-    if outside + replaced.length() > RESULT_BYTES {
-        return Err(refuse(12));
+    let body = pushed(body, false);
+    let terms = boundary_terms(&body, *x);
+    if terms.len() > TERMS {
+        return refused(10, 0);
     }
-    *quantified = replaced;
-    Ok(true)
+    match replacement(*quantifier, *x, &body, &terms) {
+        Err(number) => refused(number, terms.len()),
+        Ok(replaced) if outside + replaced.length() > RESULT_BYTES => refused(12, terms.len()),
+        Ok(replaced) => {
+            *quantified = replaced;
+            Step::Finished { terms: terms.len() }
+        }
+    }
 }
 
 /// The last quantifier in reading order and its offset, given the offset of the formula.
@@ -58,24 +79,19 @@ fn has_quantifier(formula: &Formula) -> bool {
     }
 }
 
-/// SOME becomes the ANYOF of the copies, EVERY the ALLOF, in point order, under the list rule.
-fn replacement(quantifier: Quantifier, x: usize, body: &Formula) -> Result<Formula, u32> {
-    let body = pushed(body, false);
-    let terms = boundary_terms(&body, x);
-    if terms.len() > TERMS {
-        return Err(10);
-    }
+/// SOME becomes the ANYOF of the copies, EVERY the ALLOF, in point order, under the list rule; the body is pushed.
+fn replacement(quantifier: Quantifier, x: usize, body: &Formula, terms: &[Term]) -> Result<Formula, u32> {
     let list = match quantifier {
         Quantifier::Some => List::AnyOf,
         Quantifier::Every => List::AllOf,
     };
-    let points = points(&terms);
+    let points = points(terms);
     if !points.iter().all(point_in_range) {
         return Err(11);
     }
     let mut copies = Copies { list, kept: Vec::new(), length: 0, decided: false };
     for point in &points {
-        copies.take(copy(&body, x, point).map_err(|_| 11_u32)?);
+        copies.take(copy(body, x, point).map_err(|_| 11_u32)?);
     }
     copies.finish()
 }

@@ -1,6 +1,6 @@
 -- 01, 'One step': the loop over all quantifiers. Before each turn the run of the formula in the buffer is the run of the formula at the start; a
 -- turn is one step; a step that is refused or wants room, or no quantifier left, ends it. Assumes nothing.
-use Prim.Native.Nat.{ℕ, zero, suc, _≤_, _<_}
+use Prim.Native.Nat.{ℕ, zero, suc, _+_, _≤_, _<_}
 use mathlib.Core.Path.{_≡_, refl, sym, _∙_, ap, ap₂, subst}
 use mathlib.Core.Bool.{Bool, true, false}
 use mathlib.Core.List.{List}
@@ -17,17 +17,22 @@ use Rattle.reading.proofs.Places.{nothing-free}
 use Rattle.reading.proofs.Trees.{tree-is, begins, exactly-tree}
 use Rattle.rules.specs.Steps.{quantifiers, step, refusal, Run, ran, halted, onward, afterStep, run, eliminated}
 use Rattle.rules.specs.Eliminate.{roomBytes}
+use Rattle.rules.specs.Counts.{Counts, countsOf, larger, together, termsAt}
 use Rattle.elimination.specs.Stepping.{held, Stands, refusalAt, steppedOf, isShort, Steps}
-use Rattle.elimination.specs.Running.{Reached, RanTo, isAt, offsetOf}
+use Rattle.elimination.specs.Running.{Reached, RanTo, Runs, RanCounts, isAt, offsetOf}
 use Rattle.elimination.specs.declared.Stepped.{Stepped}
 use Rattle.elimination.specs.declared.Stepped.the-variants as Stepped
+use Rattle.elimination.specs.declared.Ran.{Ran}
 use Rattle.elimination.specs.declared.Ran.the-variants as Ran
+use Rattle.elimination.specs.declared.Tally.{Tally}
+use Rattle.elimination.specs.declared.Went.{Went}
 use Rattle.rules.specs.Levels.{Wide}
 use Rattle.rules.proofs.Limits.Levels.{wide-fits}
 use Rattle.rules.proofs.Limits.Copies.{not-refused}
 use Rattle.rules.proofs.Stepwise.Around.{free-zero}
 use Rattle.rules.proofs.Stepwise.OneStep.{step-wide, step-fewer}
 use Rattle.rules.proofs.Stepwise.Run.{run-on, run-stops, run-done}
+use Rattle.rules.proofs.Counting.{counts-on, counts-stop, terms-most, counts-none}
 
 -- ---- a formula at the start of a buffer
 
@@ -39,6 +44,20 @@ stands-as n b f w e few long = let x : Exactly (take n b) f = record { bytes = e
 
 pub held-long : (n : ℕ) (b : List ℕ) → Stands n b → length (encode (held n b)) ≡ n
 held-long n b s = let few = s .few in let long = s .long in sym (ap length (s .exactly .bytes)) ∙ length-take-le n b (omega arith)
+
+-- ---- what is counted
+
+-- of a run that stood at f with d₀ steps and at most m₀ terms, and now stands at g with d and m
+pub record Counting (f : Formula) (d₀ m₀ : ℕ) (g : Formula) (d m : ℕ) : Type 0 where
+  pub steps : d + countsOf g .finished ≡ d₀ + countsOf f .finished
+  pub terms : larger m (countsOf g .most) ≡ larger m₀ (countsOf f .most)
+
+abbrev sum : ℕ → ℕ → Counts
+sum d m = record { finished = d; most = m }
+
+-- all is counted where g has nothing to count; else what is left is counted from g on
+pub counted-left : {f g : Formula} {d₀ m₀ d m : ℕ} → Counting f d₀ m₀ g d m → together (sum d m) (countsOf g) ≡ together (sum d₀ m₀) (countsOf f)
+counted-left c = ap₂ sum (c .steps) (c .terms)
 
 -- ---- before a turn
 
@@ -127,6 +146,48 @@ module _ {f : Formula} {n : ℕ} {cur : List ℕ} {found : Found} {room : ℕ} {
       t .reached .same ∙ run-stops g (w .place) (w .every) (w .variable) (w .body) (a .0) (w .last) (sym number ∙ a .1)
       ∙ ap₂ halted (sym (a .2)) (sym (p ∙ ap offsetOf (t .last ∙ ap foundOf (w .last))))
 
+  module _ {d₀ m₀ d m k : ℕ} (i : k ≡ termsAt (lastIn (held n cur))) (c : Counting f d₀ m₀ (held n cur) d m) where
+    pub count-next : (j : ℕ) → r ≡ Stepped.Fine j → Counting f d₀ m₀ (held j cur′) (d + 1) (larger m k)
+    count-next j e =
+        let g = held n cur in
+        let w = here in
+        let a = fine-is (refusalAt (lastIn g) (step g)) (length (encode (step g))) j (answer (Stepped.Fine j) e refl) in
+        let x : refusal (w .variable) (w .body) (step g) ≡ 0 = sym number ∙ a .0 in
+        let wide = step-wide resultLevels g (w .place) (w .every) (w .variable) (w .body) (w .last) x (t .reached .wide) in
+        let is = ap (λ (l : ℕ). held l cur′) (a .1) ∙ held-is (length (encode (step g))) cur′ (step g) (wide-fits (step g) resultLevels wide) (s .tried .bytes (ap isShort e) (a .0)) in
+        let one = counts-on g (w .place) (w .every) (w .variable) (w .body) (w .last) x in
+        let steps-now = ap (λ (h : Formula). countsOf h .finished) is in
+        let terms-now = ap (λ (h : Formula). countsOf h .most) is in
+        record {
+          steps = omega (arith, c .steps, ap (λ (y : Counts). y .finished) one, steps-now);
+          terms = omega (arith, c .terms, ap (λ (y : Counts). y .most) one, terms-now, i);
+        }
+
+    -- there is a step more to count
+    pub count-room : (j : ℕ) → r ≡ Stepped.Fine j → d + 1 ≤ d₀ + countsOf f .finished
+    count-room j e =
+        let g = held n cur in
+        let w = here in
+        let a = fine-is (refusalAt (lastIn g) (step g)) (length (encode (step g))) j (answer (Stepped.Fine j) e refl) in
+        omega (arith, c .steps, ap (λ (y : Counts). y .finished) (counts-on g (w .place) (w .every) (w .variable) (w .body) (w .last) (sym number ∙ a .0)))
+
+    pub count-stopped : (j : ℕ) → r ≡ Stepped.Refused j → sum d (larger m k) ≡ together (sum d₀ m₀) (countsOf f)
+    count-stopped j e =
+        let g = held n cur in
+        let w = here in
+        let a = refused-is (refusalAt (lastIn g) (step g)) (length (encode (step g))) j (answer (Stepped.Refused j) e refl) in
+        let one = counts-stop g (w .place) (w .every) (w .variable) (w .body) (w .last) (a .0) (sym number ∙ a .1) in
+        ap₂ sum (omega (arith, c .steps, ap (λ (y : Counts). y .finished) one)) (omega (arith, c .terms, ap (λ (y : Counts). y .most) one, i))
+
+    pub count-wants : r ≡ Stepped.Short → Counting f d₀ m₀ (held n cur′) d (larger m k)
+    count-wants e =
+        let g = held n cur in
+        let w = here in
+        let is = ap (held n) (s .tried .again (ap isShort e)) in
+        let steps-now = ap (λ (h : Formula). countsOf h .finished) is in
+        let terms-now = ap (λ (h : Formula). countsOf h .most) is in
+        record { steps = omega (arith, c .steps, steps-now); terms = omega (arith, c .terms, terms-now, terms-most g (w .place) (w .every) (w .variable) (w .body) (w .last), i) }
+
   pub run-wants : r ≡ Stepped.Short → Reached f n cur′ × (room < roomBytes)
   run-wants e = (subst (Reached f n) (sym (s .tried .again (ap isShort e))) (t .reached), s .roomy (ap isShort e))
 
@@ -140,6 +201,19 @@ pub run-finishes : {f : Formula} {n : ℕ} {cur : List ℕ} {found : Found} (roo
 run-finishes {f} {n} {cur} {found} room t h =
     let g = held n cur in
     (g, t .reached .same ∙ run-done g (none-left (lastIn g) (sym (ap isAt (t .last)) ∙ h)), sym (held-long n cur (t .reached .stands)), t .reached .stands .exactly .bytes)
+
+pub count-ends : {f : Formula} {n : ℕ} {cur : List ℕ} {found : Found} {d₀ m₀ d m : ℕ} → RunTurn f n cur found → isAt found ≡ false → Counting f d₀ m₀ (held n cur) d m
+    → sum d m ≡ together (sum d₀ m₀) (countsOf f)
+count-ends {f} {n} {cur} {found} t h c =
+    let g = held n cur in
+    let one = counts-none g (none-left (lastIn g) (sym (ap isAt (t .last)) ∙ h)) in
+    ap₂ sum (omega (arith, c .steps, ap (λ (y : Counts). y .finished) one)) (omega (arith, c .terms, ap (λ (y : Counts). y .most) one))
+
+-- an answer with what was counted
+pub went-as : (f : Formula) (t : Tally) (room : ℕ) (cur cur′ work work′ : List ℕ) {r : Ran} {d m : ℕ} (w : Went) → (w .ran ≡ r) × (w .tally ≡ record { steps = d; terms = m })
+    → Runs f room cur cur′ work work′ r → RanCounts f t cur′ r (record { steps = d; terms = m }) → Runs f room cur cur′ work work′ (w .ran) × RanCounts f t cur′ (w .ran) (w .tally)
+went-as f t room cur cur′ work work′ {r} w e a b =
+    (subst (Runs f room cur cur′ work work′) (sym (e .0)) a, subst (λ (q : Ran). RanCounts f t cur′ q (w .tally)) (sym (e .0)) (subst (RanCounts f t cur′ r) (sym (e .1)) b))
 
 -- ---- what a run ends in is not too long
 

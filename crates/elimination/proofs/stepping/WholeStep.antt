@@ -21,6 +21,7 @@ use Rattle.reading.proofs.Places as places
 use Rattle.reading.proofs.Places.{splits-at, stands-right, stands-drop, stands-within, last-free}
 use Rattle.rules.specs.Steps.{replacement, step, refusal, numbersFit}
 use Rattle.rules.specs.Points.{terms, points}
+use Rattle.rules.specs.Counts.{termsAt}
 use Rattle.rules.specs.Pushing.{push}
 use Rattle.replacement.specs.Gathering.{rowsOf, Table}
 use Rattle.reading.proofs.Lengths.{quant-long}
@@ -36,6 +37,15 @@ use Rattle.replacement.proofs.Outcomes.{rows-long}
 use Rattle.replacement.proofs.Outcomes.{Found}
 use Rattle.writing.proofs.Moving.{drop-take}
 use Rattle.rules.proofs.Stepwise.OneStep.{Splits, splits}
+
+-- ---- the boundary terms of a step
+
+module _ (g : Formula) {p : ℕ} {b : Bool} {v : ℕ} {f : Formula} (last : lastIn g ≡ at p b v f) where
+  pub terms-many : mostTerms < length (terms v f) → 0 ≡ termsAt (lastIn g)
+  terms-many h = sym (ap termsAt last ∙ ap (λ (y : Bool). cond y 0 (length (terms v f))) (lt-ltb mostTerms (length (terms v f)) h))
+
+  pub terms-few : {n : ℕ} → n ≡ length (terms v f) → n ≤ mostTerms → n ≡ termsAt (lastIn g)
+  terms-few {n} e h = e ∙ sym (ap termsAt last ∙ ap (λ (y : Bool). cond y 0 (length (terms v f))) (le-ltb mostTerms (length (terms v f)) (omega arith)))
 
 -- ---- the work buffer, where something was done to it before the step
 

@@ -110,24 +110,24 @@ returns-4 c =
     )
 
 same-length : tie.Need-same-length
-same-length c = c .before .before .before .before .before .before .accepted-in .kept .1 .0
+same-length c = c .before .before .before .before .before .before .before .accepted-in .kept .1 .0
 
 same-length-2 : tie.Need-same-length-2
-same-length-2 c = c .before .before .before .before .before .before .accepted-in .kept .1 .1 .0
+same-length-2 c = c .before .before .before .before .before .before .before .accepted-in .kept .1 .1 .0
 
 same-length-3 : tie.Need-same-length-3
-same-length-3 c = let k = c .before .before .before .before .before .before .accepted-in in length-front (c .before .before .before .before .before .before .before .before .before .before .before .before .before .before .before .before .before .before .before .before .before .args .room .now) (k .last .1 .1 .1 .0) (c .before .before .before .before .before .before .before .before .before .before .before .before .before .before .room-asked .result) (k .kept .1 .1 .1 .0)
+same-length-3 c = let k = c .before .before .before .before .before .before .before .accepted-in in length-front (c .before .before .before .before .before .before .before .before .before .before .before .before .before .before .before .before .before .before .before .before .before .before .args .room .now) (k .last .1 .1 .1 .0) (c .before .before .before .before .before .before .before .before .before .before .before .before .before .before .before .room-asked .result) (k .kept .1 .1 .1 .0)
 
 returns-5 : tie.Need-returns-5
 returns-5 c =
-    let a = c .before .before .before .before .before .before .before .before .before .before .before .before .before .before .before .before .before .before .before .before .before .args in
-    let e = c .before .before .before .before .before .before .before .before .before .before in
+    let a = c .before .before .before .before .before .before .before .before .before .before .before .before .before .before .before .before .before .before .before .before .before .before .args in
+    let e = c .before .before .before .before .before .before .before .before .before .before .before in
     let q = e .before .before .before .before .room-asked in
-    let k = c .before .before .before .before .before .before .accepted-in in (
-      subst (λ (o : Result). Gives o (k .result) (k .last .1 .0) (k .last .1 .1 .0))
+    let k = c .before .before .before .before .before .before .before .accepted-in in (
+      subst (λ (o : Result). Gives o (k .result .reply) (k .last .1 .0) (k .last .1 .1 .0))
           (sym (in-room (length (a .room .now)) (a .sheet .now) (a .result .now) (a .work .now) (enough (e .before .before .before))
           ∙ sheet-accepted (a .sheet .now) (a .result .now) (a .work .now) (e .enum-told .given .0 .0) (was-read e) (allowed e) (e .before .before .before .before .before .before .if1 .left) (e .before .before .before .before .before .if2 .left)))
-          (k .ensures),
+          (k .ensures .0),
       subst (λ (n : ℕ). drop n (k .last .1 .1 .1 .0 ++ drop (q .result) (a .room .now)) ≡ drop n (a .room .now)) (q .ensures) (lent-rest (q .result) (a .room .now) (k .last .1 .1 .1 .0) (e .before .before .before .if3 .left) (k .kept .1 .1 .1 .0)),
     )
 

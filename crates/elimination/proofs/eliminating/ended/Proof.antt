@@ -1,13 +1,17 @@
 -- `ended`: what the finishing pass came to is given to the caller; for want of room nothing is done.
-use mathlib.Core.Path.{_≡_, _∙_, subst}
+use mathlib.Core.Path.{_≡_, _∙_, ap, subst}
+use mathlib.Core.List.{List}
+use Prim.Native.Nat.{ℕ}
 use native.Mathlib.Omega.{arith}
 use lib.ListN.{length}
 use borrow.Author.Needs.{needs}
+use Rattle.rules.specs.Counts.{countsOf}
 use Rattle.elimination.specs.Stepping.{held}
 use Rattle.elimination.specs.Finishing.{Finishes}
 use Rattle.elimination.specs.declared.Finished.{Finished}
 use Rattle.elimination.specs.declared.Finished.the-variants as Finished
 use Rattle.elimination.proofs.eliminating.Carrying.{finished-exactly, ended-gives, ended-wants}
+use Rattle.elimination.proofs.eliminating.CountLaws.{free-none}
 use Rattle.elimination.proofs.eliminating.ended.Statement.{statement}
 use Rattle.elimination.proofs.eliminating.ended.Tie as tie
 use Rattle.elimination.proofs.eliminating.ended.Reads as reads
@@ -53,7 +57,8 @@ returns c =
     let k = c .before .before .before .before .before .before .before .before in
     let a = k .before .before .before .before .before .before .before .args in
     let p = k .before .before .before .before .before .before .before .pre in
-    ended-wants (a .len) (a .result .now) (k .finish .last .0) (a .work .now) (k .finish .last .1 .0) (a .sheet) (length (a .room .now)) (p .0) (p .1 .0) (came k Finished.Short (c .enum-told .given .1))
+    let s = came k Finished.Short (c .enum-told .given .1) in
+    (ended-wants (a .len) (a .result .now) (k .finish .last .0) (a .work .now) (k .finish .last .1 .0) (a .sheet) (length (a .room .now)) (p .0) (p .1 .0) s, ap (λ (b : List ℕ). countsOf (held (a .len) b)) (s .0) ∙ free-none (held (a .len) (a .result .now)) (p .0 .free))
 
 same-length-4 : tie.Need-same-length-4
 same-length-4 c = c .before .before .before .before .given .kept .0 ∙ c .before .before .before .before .before .before .before .before .before .before .before .before .before .before .before .before .finish .kept .0
@@ -71,7 +76,7 @@ returns-2 c =
     let g = c .before .before .before .before .given in
     let x = c .before .before .before .before .before .before .before .before .f .given in
     let s = came k (Finished.Fine (x .0 .0)) (x .1) in
-    ended-gives (a .len) (x .0 .0) (a .result .now) (k .finish .last .0) (a .work .now) (k .finish .last .1 .0) (a .sheet) (g .result) (g .last .0) (g .last .1 .0) (k .before .before .before .before .before .before .before .pre .0) (s .0) (s .1) (g .ensures)
+    (ended-gives (a .len) (x .0 .0) (a .result .now) (k .finish .last .0) (a .work .now) (k .finish .last .1 .0) (a .sheet) (g .result) (g .last .0) (g .last .1 .0) (k .before .before .before .before .before .before .before .pre .0) (s .0) (s .1) (g .ensures), tt)
 
 pub ended-spec : {M : Type 1} → statement M
 ended-spec =

@@ -14,9 +14,10 @@ use Rattle.reading.specs.declared.Binder.{Binder}
 use Rattle.reading.proofs.Looking.{Body, body-at}
 use Rattle.exact.proofs.Rows.{each-zeros}
 use Rattle.rules.specs.Points.{terms}
+use Rattle.elimination.specs.Stepping.{held}
 use Rattle.elimination.proofs.stepping.one_step.Statement.{statement}
-use Rattle.replacement.proofs.Outcomes.{full-many, Found, fine-found}
-use Rattle.elimination.proofs.stepping.WholeStep.{within, variable-low, quantifier-at, binder-said, part-tree, part-read, body-long, body-read, step-many, poised}
+use Rattle.replacement.proofs.Outcomes.{rows-long, full-many, Found, fine-found}
+use Rattle.elimination.proofs.stepping.WholeStep.{terms-many, terms-few, within, variable-low, quantifier-at, binder-said, part-tree, part-read, body-long, body-read, step-many, poised}
 use Rattle.elimination.proofs.stepping.one_step.Tie as tie
 
 last : (a : tie.Start) → Body true (take (a .args .len) (a .args .cur .now)) (a .args .o)
@@ -186,12 +187,9 @@ returns c =
     let b = read k in
     let a = start b in
     let q = last a in
-    let m = full-many (b .binder-at .result .variable) (treeOf (part a)) (replicate 640 (pos 0)) (k .gather .ensures) (c .enum-told .given .1) in
-    record {
-      tried = step-many (a .pre .0) (q .is) (a .args .work .now)
-          (subst (λ (us : List (List ℤ)). mostTerms < length us) (ap₂ terms (variable-is b) (tree a)) m);
-      roomy = λ s. absurd (true≢false (sym s));
-    }
+    let m : mostTerms < length (terms (q .variable) (q .body)) = subst (λ (us : List (List ℤ)). mostTerms < length us) (ap₂ terms (variable-is b) (tree a))
+    (full-many (b .binder-at .result .variable) (treeOf (part a)) (replicate 640 (pos 0)) (k .gather .ensures) (c .enum-told .given .1)) in
+    (record { tried = step-many (a .pre .0) (q .is) (a .args .work .now) m; roomy = λ s. absurd (true≢false (sym s)) }, terms-many (held (a .args .len) (a .args .cur .now)) (q .is) m)
 
 same-length-2 : tie.Need-same-length-2
 same-length-2 c = search needs
@@ -203,7 +201,16 @@ same-length-4 : tie.Need-same-length-4
 same-length-4 c = search needs
 
 returns-2 : tie.Need-returns-2
-returns-2 c = c .before .before .before .before .before .before .step-with .ensures
+returns-2 c =
+    let w = c .before .before .before .before .before .before in
+    let g = w .before .before .before .before .before .before .before .before .before .before .before .before in
+    let b = read (gathered g) in
+    let a = start b in
+    let q = last a in
+    let f = found g in (
+      w .step-with .ensures,
+      terms-few (held (a .args .len) (a .args .cur .now)) (q .is) (sym (rows-long (g .g .given .0 .1 .0) (gathered g .gather .last .1 .1 .0)) ∙ ap length (f .rows) ∙ ap length (ap₂ terms (variable-is b) (tree a))) (f .most),
+    )
 
 pub one-step-spec : {M : Type 1} → statement M
 one-step-spec =
