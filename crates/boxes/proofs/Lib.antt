@@ -1,0 +1,3 @@
+-- The laws of boxes and lists.
+pub mod Lists
+pub mod Walking

@@ -1,0 +1,2 @@
+-- #102: sheets in boxes, and what is told of them.
+pub mod Boxes
