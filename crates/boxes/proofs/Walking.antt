@@ -94,6 +94,28 @@ season-stops s q e =
     let k : q ≡ x .0 = omega (arith, x .1) in
     (omega (arith, x .2, k), ap (λ (j : ℕ). boxIn (drop j s)) k ∙ x .3)
 
+-- ---- box by box: each line is that of the next box, and after the last line no byte is left, or a bad box stands at the place that is told
+
+abbrev pub Walked : List Line → ℕ → List ℕ → Ending → Type 0
+Walked [] p s through = boxIn s ≡ Boxed.Over
+Walked [] p s (badAt q) = (q ≡ p) × (boxIn s ≡ Boxed.Bad)
+Walked (l ∷ ls) p s e = (n : ℕ) × (boxIn s ≡ Boxed.Whole n) × (l ≡ lineOf (sheetIn n s)) × Walked ls (p + n) (drop n s) e
+
+walk-walked : (m p : ℕ) (s : List ℕ) → length s < m → Walked (walk m p s .lines) p s (walk m p s .ending)
+unfolding walk
+walk-walked zero p s h = absurd (omega arith)
+walk-walked (suc m) p s h = go (boxIn s) refl (λ n k. walk-walked m (p + n) (drop n s) k)
+  where
+    go : (b : Boxed) → boxIn s ≡ b → ((n : ℕ) → length (drop n s) < m → Walked (walk m (p + n) (drop n s) .lines) (p + n) (drop n s) (walk m (p + n) (drop n s) .ending))
+        → let w = walkAt b p s (λ k. walk m (p + k) (drop k s)) in Walked (w .lines) p s (w .ending)
+    go Boxed.Over e ih = e
+    go Boxed.Bad e ih = (refl, e)
+    go (Boxed.Whole n) e ih = let i = box-inside s n e in (n, e, refl, ih n (omega (arith, h, i .four, i .there, length-drop n s)))
+
+pub season-walked : (s : List ℕ) → Walked (season s .lines) 0 s (season s .ending)
+unfolding season
+season-walked s = walk-walked (suc (length s)) 0 s (omega arith)
+
 -- ---- a box more at the end
 
 left : (xs ys : List ℕ) (i : ℕ) → i < length xs → getD (xs ++ ys) i 0 ≡ getD xs i 0
