@@ -59,13 +59,13 @@ pub extern "C" fn vb_count(sheet: &[u8], result: &mut [u8], work: &mut [u8]) -> 
     ensures { λ r. ⌜ CountsAlong (now (sheet .entry)) (now (result .entry)) (now (work .entry)) r (now (result .exit)) (now (work .exit)) ⌝ }
 {
     let all = elimination::eliminate_counted(sheet, result, work);
-    let said = all.reply;
+    let whole = all.reply;
     let tally = all.tally;
     Counted {
-        number: said.number as u64,
-        verdict: said.verdict as u64,
-        place: said.place as u64,
-        length: said.length as u64,
+        number: whole.number as u64,
+        verdict: whole.verdict as u64,
+        place: whole.place as u64,
+        length: whole.length as u64,
         steps: tally.steps as u64,
         terms: tally.terms as u64,
     }
