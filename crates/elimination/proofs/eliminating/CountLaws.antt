@@ -22,15 +22,13 @@ use Rattle.rules.proofs.Counting.{counts-none, steps-few}
 use Rattle.elimination.specs.Stepping.{held}
 use Rattle.elimination.specs.Running.{tallied, CountsAll, CountsLeft}
 use Rattle.elimination.specs.Eliminating.{Accepted, Gives, Carries, CarriedCounts, Uncounts, untallied}
+use Rattle.elimination.proofs.running.RunLaws.{sum}
 use Rattle.elimination.specs.declared.Tally.{Tally}
 use Rattle.elimination.specs.declared.Reply.{Reply}
 use Rattle.elimination.specs.declared.Came.{Came}
 use Rattle.elimination.specs.declared.Counted.{Counted}
 use Rattle.elimination.specs.declared.Carried.{Carried}
 use Rattle.elimination.specs.declared.Carried.the-variants as Carried
-
-abbrev sum : ℕ → ℕ → Counts
-sum d m = record { finished = d; most = m }
 
 none-after : (c : Counts) → together c uncounted ≡ c
 none-after c = ap₂ sum (omega arith) (omega arith)

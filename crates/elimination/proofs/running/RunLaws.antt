@@ -52,7 +52,7 @@ pub record Counting (f : Formula) (d₀ m₀ : ℕ) (g : Formula) (d m : ℕ) : 
   pub steps : d + countsOf g .finished ≡ d₀ + countsOf f .finished
   pub terms : larger m (countsOf g .most) ≡ larger m₀ (countsOf f .most)
 
-abbrev sum : ℕ → ℕ → Counts
+abbrev pub sum : ℕ → ℕ → Counts
 sum d m = record { finished = d; most = m }
 
 -- all is counted where g has nothing to count; else what is left is counted from g on
