@@ -1,4 +1,6 @@
 // Sheets in boxes, one after the other: what a box is, the line that is told of its sheet, and the totals.
+#![tactic(auto)]
+
 ghost use Rattle.std.specs.Prelude.{◌≡◌, ◌+◌, ◌<◌, ◌≤◌, length};
 ghost use Rattle.rules.specs.Eliminate.{eliminate};
 ghost use Rattle.rules.specs.Counts.{counted};
@@ -12,7 +14,7 @@ pub const BOX_BYTES: usize = 4;
 const BOX_KIND: u16 = 16;
 
 // What bytes begin with: none are left; a bad box; or a box of so many bytes.
-#[derive(Drop)]
+#[derive(Clone, Copy)]
 pub enum Boxed {
     Over,
     Bad,
@@ -20,7 +22,7 @@ pub enum Boxed {
 }
 
 // What is told of a sheet, after its number.
-#[derive(Drop)]
+#[derive(Clone, Copy)]
 pub struct Line {
     pub answer: usize,
     pub verdict: usize,
@@ -30,7 +32,7 @@ pub struct Line {
 }
 
 // How many boxes had answer 0, and verdict 0, 1 and 2; and the sum of the results' lengths.
-#[derive(Drop)]
+#[derive(Clone, Copy)]
 pub struct Totals {
     pub done: u64,
     pub no: u64,

@@ -1,4 +1,5 @@
 // What the gate's programs share: the next case of standard input, numbers on a line, and the checksum of bytes.
+#![tactic(auto)]
 
 ghost use Rattle.std.specs.Prelude.{◌+◌, ◌<◌, ◌≤◌, length};
 

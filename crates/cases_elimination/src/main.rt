@@ -1,5 +1,6 @@
 // Reads sheets from standard input, each its length in four bytes and then its bytes, and prints a line for each: answer, verdict, place, length,
 // and the result in hex where it has at most 600 bytes, else the word fnv and the checksum of its bytes (FNV-1a, 64 bits).
+#![tactic(auto)]
 
 // A byte in two digits.
 fn digits(b: u8) {

@@ -3,6 +3,8 @@
 // variable and nine (the boundary term); M and two rows of ten (the midpoint, and whether it lies in -M..M); A, a kind, a point's kind (0 to
 // 3: below, above, a fraction, none), a variable, nine and ten (the atom at the point,
 // or `large` where a number of it lies outside -M..M). `-` stands for a case that `exact` does not take.
+#![tactic(auto)]
+
 ghost use Rattle.std.specs.Prelude.{◌<◌, ◌≤◌, length};
 ghost use Rattle.reading.specs.Limits.{M};
 ghost use Rattle.exact.specs.Numbers.{Within, Each};
@@ -11,14 +13,14 @@ ghost use Rattle.exact.specs.Atoms.{Ready};
 use exact::{Outcome, Point, PointKind, Put, abs, within_all};
 
 // Digits that were read, and where the next byte stands.
-#[derive(Drop)]
+#[derive(Clone, Copy)]
 struct Digits {
     value: u64,
     at: usize,
 }
 
 // A number that was read, and where the next byte stands.
-#[derive(Drop)]
+#[derive(Clone, Copy)]
 struct Read {
     value: i64,
     at: usize,

@@ -1,6 +1,7 @@
 // Reads cases from standard input, each its length in four bytes and then its bytes, and prints a line for each: number and place under the
 // sheet's limits, number and place under the look's, where the look's part begins and how long it is; then from the part itself its length and,
 // where it is not empty, the checksum of its bytes (FNV-1a, 64 bits).
+#![tactic(auto)]
 
 // The part that the look gives back.
 fn body(s: &[u8]) {

@@ -1,5 +1,6 @@
 // Reads sheets from standard input, each its length in four bytes, its bytes and nine numbers of eight bytes, and prints a line for each: number,
 // verdict and place of the test at those eight values over the ninth.
+#![tactic(auto)]
 
 // The signed number in eight bytes.
 fn value(s: &[u8; 8]) -> i64 {

@@ -1,9 +1,11 @@
 // The calls that C makes: each a line over the proved call below, with the same promise and no `requires`.
+#![tactic(auto)]
+
 ghost use Rattle.std.specs.Prelude.{[], ◌∷◌};
 ghost use Rattle.desk.specs.Promises.{Eliminates, EliminatesIn, CountsAlong, TestsAt, ReadsAs, LooksAt};
 
 #[repr(C)]
-#[derive(Drop)]
+#[derive(Clone, Copy)]
 pub struct Reply {
     pub number: u64,
     pub verdict: u64,
@@ -12,7 +14,7 @@ pub struct Reply {
 }
 
 #[repr(C)]
-#[derive(Drop)]
+#[derive(Clone, Copy)]
 pub struct Counted {
     pub number: u64,
     pub verdict: u64,
@@ -23,7 +25,7 @@ pub struct Counted {
 }
 
 #[repr(C)]
-#[derive(Drop)]
+#[derive(Clone, Copy)]
 pub struct Tested {
     pub number: u64,
     pub verdict: u64,
@@ -31,14 +33,14 @@ pub struct Tested {
 }
 
 #[repr(C)]
-#[derive(Drop)]
+#[derive(Clone, Copy)]
 pub struct Place {
     pub number: u64,
     pub place: u64,
 }
 
 #[repr(C)]
-#[derive(Drop)]
+#[derive(Clone, Copy)]
 pub struct Part {
     pub at: u64,
     pub length: u64,

@@ -214,6 +214,24 @@ fn carried_on(res: &mut [u8], work: &mut [u8], len: usize, sheet: usize, t: Tall
     carried_near(res, work, len, sheet, t)
 }
 
+// The same in the caller's room of as many bytes as any formula asks for.
+fn carried_in(
+    res: &mut [u8],
+    work: &mut [u8],
+    room: &mut [u8; ROOM],
+    len: usize,
+    sheet: usize,
+    t: Tally,
+) -> Came
+    requires stands { Stands len res.old }
+    requires wide { Wide result_levels (held len res.old) }
+    requires result_bytes_in_bounds { result_bytes ≤ length work.old }
+    requires res_bound { t.steps + (counts_of (held len res.old)).finished ≤ result_bytes }
+    ensures { Carries (held len res.old) sheet room_bytes res.old res.new work.old work.new result.carried × CarriedCounts (held len res.old) t res.new result.carried result.tally }
+{
+    carried(res, work, room, len, sheet, t)
+}
+
 // The same in as much room as any formula asks for.
 fn carried_out(res: &mut [u8], work: &mut [u8], len: usize, sheet: usize, t: Tally) -> Counted
     requires stands { Stands len res.old }
@@ -223,7 +241,7 @@ fn carried_out(res: &mut [u8], work: &mut [u8], len: usize, sheet: usize, t: Tal
     ensures { Gives (by_run sheet (eliminated (held len res.old)) res.old work.old) result.reply res.new work.new × CountsAll (held len res.old) t result.tally }
 {
     let mut room = [0u8; ROOM];
-    let c = carried(res, work, &mut room, len, sheet, t);
+    let c = carried_in(res, work, &mut room, len, sheet, t);
     let u = c.tally;
     let w = c.carried;
     match w {

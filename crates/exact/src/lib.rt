@@ -1,5 +1,7 @@
 // Exact arithmetic: greatest common divisors, reduced rows, boundary terms, midpoints, and an atom at a point. No public call of the product stands
 // here: what is shown is for the crate above and for the program that runs stored cases, and asks for sizes that these meet.
+#![tactic(auto)]
+
 mod atom;
 mod number;
 mod row;
@@ -14,7 +16,7 @@ pub use term::{bound_of, left, midpoint, term_of};
 pub const MOST: u64 = reading::MOST as u64;
 
 // How an atom comes out at a point.
-#[derive(Drop)]
+#[derive(Clone, Copy)]
 pub enum Outcome {
     True,
     False,
@@ -22,7 +24,7 @@ pub enum Outcome {
 }
 
 // The kind of a point: below all numbers, above all, a fraction, or none (the finishing pass).
-#[derive(Drop)]
+#[derive(Clone, Copy)]
 pub enum PointKind {
     Below,
     Above,
@@ -31,7 +33,7 @@ pub enum PointKind {
 }
 
 // A point for the variable x: its kind and, for a fraction, eight coefficients, a constant and a denominator.
-#[derive(Drop)]
+#[derive(Clone, Copy)]
 pub struct Point {
     pub kind: PointKind,
     pub x: usize,
@@ -39,7 +41,7 @@ pub struct Point {
 }
 
 // The outcome of an atom, its nine numbers beside it, and whether these lie in -M..M.
-#[derive(Drop)]
+#[derive(Clone, Copy)]
 pub struct Put {
     pub outcome: Outcome,
     pub fits: bool,

@@ -1,6 +1,8 @@
 // The Monday list: reads sheets in boxes from standard input, one after the other, and prints a line for each: its number from 1, answer, verdict, steps
 // finished, most boundary terms, result length. A bad box ends the list with 15 and its offset. The last line has the totals: how many had answer 0, how many
 // verdicts 0, 1 and 2, and the sum of result lengths. Where standard error is a terminal, it shows how many boxes are done.
+#![tactic(auto)]
+
 ghost use Rattle.std.specs.Prelude.{◌≡◌, false, ◌+◌, ◌≤◌, ◌<◌, length};
 
 use boxes::{BOX_BYTES, Boxed, Line, Totals};
@@ -9,7 +11,7 @@ use boxes::{BOX_BYTES, Boxed, Line, Totals};
 const TEXT: usize = 160;
 
 // How far the list has come: its boxes, the bytes that they take, and the totals.
-#[derive(Drop)]
+#[derive(Clone, Copy)]
 struct State {
     boxes: u64,
     at: u64,
@@ -17,7 +19,7 @@ struct State {
 }
 
 // The same, and whether there is more to read.
-#[derive(Drop)]
+#[derive(Clone, Copy)]
 struct Turned {
     more: bool,
     state: State,

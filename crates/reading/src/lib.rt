@@ -1,5 +1,7 @@
 // Reading a sheet: the limits, what the calls answer, and the public calls, which take every sheet and write nothing: `read`, `look`,
 // `look_part` and `read_whole`. The other names that are shown ask for something; they are for the crates above, which meet it.
+#![tactic(auto)]
+
 mod formulas;
 mod numbers;
 mod quantifiers;
@@ -33,7 +35,7 @@ pub const RESULT_LEVELS: usize = 25;
 pub const TREE_LEVELS: usize = RESULT_LEVELS;
 
 // Whose limits a sheet is read by: a sheet's, or a result's, which the test at fractions and the look take too.
-#[derive(Drop)]
+#[derive(Clone, Copy)]
 pub enum Limit {
     Sheet,
     Result,
@@ -88,7 +90,7 @@ pub const QUANTIFIER_BYTES: usize = 6;
 pub const WINDOW_BYTES: usize = 14;
 
 // sum < 0, sum <= 0, sum = 0.
-#[derive(Drop)]
+#[derive(Clone, Copy)]
 pub enum Comparison {
     Less,
     AtMost,
@@ -96,7 +98,7 @@ pub enum Comparison {
 }
 
 // The kind of a record: a list is ALLOF or not, a quantifier EVERY or not.
-#[derive(Drop)]
+#[derive(Clone, Copy)]
 pub enum Shape {
     Atom(Comparison),
     Not,
@@ -106,7 +108,7 @@ pub enum Shape {
 }
 
 // A WINDOW: lo <= variable <= hi.
-#[derive(Drop)]
+#[derive(Clone, Copy)]
 pub struct Window {
     pub variable: usize,
     pub lo: i64,
@@ -114,42 +116,42 @@ pub struct Window {
 }
 
 // A quantifier: EVERY or SOME, and its variable.
-#[derive(Drop)]
+#[derive(Clone, Copy)]
 pub struct Binder {
     pub every: bool,
     pub variable: usize,
 }
 
 // One record: the number of its refusal; or its kind, its length and how many formulas follow it.
-#[derive(Drop)]
+#[derive(Clone, Copy)]
 pub enum Head {
     Bad(usize),
     Open(u16, usize, usize),
 }
 
 // A formula: how many bytes it takes; or the number and the place of the refusal.
-#[derive(Drop)]
+#[derive(Clone, Copy)]
 pub enum Reply {
     Done(usize),
     Refused(usize, usize),
 }
 
 // The public answer: 0 and 0 where nothing is refused.
-#[derive(Drop)]
+#[derive(Clone, Copy)]
 pub struct Answer {
     pub number: usize,
     pub place: usize,
 }
 
 // The offset of a quantifier's record.
-#[derive(Drop)]
+#[derive(Clone, Copy)]
 pub enum Found {
     At(usize),
     Nothing,
 }
 
 // A part of the caller's bytes.
-#[derive(Drop)]
+#[derive(Clone, Copy)]
 pub struct Part {
     pub at: usize,
     pub length: usize,

@@ -1,4 +1,6 @@
 // The replacement of a quantifier: the list of the copies of its body at all points, closed by the list rule.
+#![tactic(auto)]
+
 mod copying;
 mod gathering;
 mod listing;
@@ -13,7 +15,7 @@ pub use replacing::{body_of, made as make};
 
 // How a formula comes out at a point: true or false; kept, with the end of its bytes in the output; or with a number outside -M..M. The first
 // number of the first two is the formula's own length.
-#[derive(Drop)]
+#[derive(Clone, Copy)]
 pub enum Copied {
     Decided(usize, bool),
     Kept(usize, usize),
@@ -22,7 +24,7 @@ pub enum Copied {
 
 // A list that is being written from `start` on: ALLOF or ANYOF, where the next member goes, how many members are kept, and whether one has
 // decided it.
-#[derive(Drop)]
+#[derive(Clone, Copy)]
 pub struct Open {
     pub all: bool,
     pub start: usize,
@@ -32,21 +34,21 @@ pub struct Open {
 }
 
 // What is seen of a body before its copies are made: the greatest size of a coefficient of x and of any other number, in the atoms that have x.
-#[derive(Drop)]
+#[derive(Clone, Copy)]
 pub struct Survey {
     pub most: u64,
     pub other: u64,
 }
 
 // What may be counted on while a formula is copied: no number comes out too big; and the table of marks tells which atoms come out as they are.
-#[derive(Drop)]
+#[derive(Clone, Copy)]
 pub struct Way {
     pub calm: bool,
     pub marked: bool,
 }
 
 // A body: its variable, how many bytes it has, and what may be counted on.
-#[derive(Drop)]
+#[derive(Clone, Copy)]
 pub struct Body {
     pub x: usize,
     pub bytes: usize,
@@ -55,7 +57,7 @@ pub struct Body {
 
 // The list of the copies while it is written: whether it is longer than any result may be, whether a number was too big, and whether the output has no
 // room for one copy more.
-#[derive(Drop)]
+#[derive(Clone, Copy)]
 pub struct Copies {
     pub list: Open,
     pub over: bool,
@@ -64,14 +66,14 @@ pub struct Copies {
 }
 
 // What gathering boundary terms came to: the bytes of the formula and the terms so far, or more than 64.
-#[derive(Drop)]
+#[derive(Clone, Copy)]
 pub enum Gathered {
     Fine(usize, usize),
     Full,
 }
 
 // What the replacement of a quantifier came to: its length; a number was too big; or the output has not enough room.
-#[derive(Drop)]
+#[derive(Clone, Copy)]
 pub enum Made {
     Fine(usize),
     Big,

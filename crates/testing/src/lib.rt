@@ -1,4 +1,6 @@
 // The test of a quantifier-free sheet at eight whole numbers over one denominator, given as nine numbers. It writes nothing.
+#![tactic(auto)]
+
 ghost use Rattle.std.specs.Prelude.{◌≡◌, ◌&&◌, cond, ◌+◌, ◌<◌, leb, nat_abs, ◌+ℤ◌, ◌*ℤ◌};
 ghost use Rattle.std.specs.Int.Signed.{le_z};
 ghost use Rattle.reading.specs.Limits.{M, variables, most_value};
@@ -16,14 +18,14 @@ use reading::{
 };
 
 // Whether a formula holds at given fractions, and its length.
-#[derive(Drop)]
+#[derive(Clone, Copy)]
 pub struct Holds {
     pub used: usize,
     pub holds: bool,
 }
 
 // What the test at fractions answers.
-#[derive(Drop)]
+#[derive(Clone, Copy)]
 pub struct Tested {
     pub number: usize,
     pub verdict: usize,

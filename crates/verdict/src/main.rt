@@ -1,4 +1,5 @@
 // Reads a sheet from standard input, more of it than any limit, and prints one line: answer, verdict, place, result length.
+#![tactic(auto)]
 
 // A number, and what follows it.
 fn show(n: usize, after: &[u8]) {

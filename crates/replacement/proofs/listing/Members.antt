@@ -91,11 +91,10 @@ at-taken l gs to o₀ o o' big used r a s q w n = let z : true ≡ false = sym (
 
 -- a member that is too big
 -- an answer of another kind, by the number of its kind
-pub not-big : (r : Copied) → (tag_of the_type r ≡ 0) ⊎ (tag_of the_type r ≡ 1) → big_of r ≡ false
+pub not-big : (r : Copied) → (r ≡ Big → ⊥) → big_of r ≡ false
 not-big (Decided used v) h = refl
 not-big (Kept used e) h = refl
-not-big Big (inl h) = absurd (omega arith)
-not-big Big (inr h) = absurd (omega arith)
+not-big Big h = absurd (h refl)
 
 -- the bytes that an answer says were read
 pub used-is : (c : Come) (used to : ℕ) (o₀ o : List ℕ) (r : Copied) → Wrote c used to o₀ o r → big_of r ≡ false → used_of r ≡ used

@@ -130,7 +130,7 @@ module _ (c : Copies) (r : Copied) where
   over-in u e h k n =
       sym (ap (joined_of c) h ∙ ap (λ (b : Bool). kept_in b c e) k ∙ ap (λ (b : Bool). kept_by b c e) (lt-ltb (result_bytes + 6) e n))
 
-  pub kept_inside : (u e : ℕ) (l : Open) → r ≡ Kept u e → c.over ≡ false → e ≤ result_bytes + 6 → l ≡ kept_of c.list e → record { list = l; over = false; big = c.big; short = c.short } ≡ joined_of c r
-  kept_inside u e l h k n f =
+  pub kept-in : (u e : ℕ) (l : Open) → r ≡ Kept u e → c.over ≡ false → e ≤ result_bytes + 6 → l ≡ kept_of c.list e → record { list = l; over = false; big = c.big; short = c.short } ≡ joined_of c r
+  kept-in u e l h k n f =
       ap (λ (y : Open). record { list = y; over = false; big = c.big; short = c.short }) f
       ∙ sym (ap (joined_of c) h ∙ ap (λ (b : Bool). kept_in b c e) k ∙ ap (λ (b : Bool). kept_by b c e) (le-ltb _ _ n))

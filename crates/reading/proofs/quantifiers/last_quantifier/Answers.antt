@@ -1,0 +1,44 @@
+-- `last_quantifier`: before each turn the last quantifier of the whole formula is the last of what is left after what is found so far.
+use Prim.Native.Nat.{◌-◌}
+use native.Mathlib.Omega.{arith}
+use mathlib.Core.Bool.{true}
+use Rattle.reading.specs.Reading.{tree_of}
+use Rattle.reading.specs.Quantifiers.{last_in, found_of}
+use Rattle.reading.proofs.Scan.{ScanStep, scan_begins, scan_step, scan-ends}
+use Rattle.reading.proofs.quantifiers.last_quantifier.Goals as goal
+
+pub loop-at-init : goal.loop-at-init
+loop-at-init c = scan_begins true c.args.s.now c.requires
+
+pub overflow_add-at : goal.overflow_add-at
+overflow_add-at c =
+    let step : let s = c.args.s.now in ScanStep true (found_of (last_in (tree_of s))) s c.loop-at.at c.loop-at.found = scan_step c.loop-at.invariant c.loop-at-test.true in
+    omega (arith, (step).room, c.well_formed.0.0)
+
+pub u16_at-kind-requires : goal.u16_at-kind-requires
+u16_at-kind-requires c =
+    let step : let s = c.args.s.now in ScanStep true (found_of (last_in (tree_of s))) s c.loop-at.at c.loop-at.found = scan_step c.loop-at.invariant c.loop-at-test.true in
+    omega (arith, (step).room)
+
+pub u16_at-requires : goal.u16_at-requires
+u16_at-requires c =
+    let step : let s = c.args.s.now in ScanStep true (found_of (last_in (tree_of s))) s c.loop-at.at c.loop-at.found = scan_step c.loop-at.invariant c.loop-at-test.true in
+    omega (arith, (step).room)
+
+pub overflow_add-at-in-loop-at : goal.overflow_add-at-in-loop-at
+overflow_add-at-in-loop-at c =
+    let step : let s = c.args.s.now in ScanStep true (found_of (last_in (tree_of s))) s c.loop-at.at c.loop-at.found = scan_step c.loop-at.invariant c.loop-at-test.true in
+    omega (arith, c.u16_at.ensures, (step).next.within, c.well_formed.0.0)
+
+pub loop-at-smaller : goal.loop-at-smaller
+loop-at-smaller c =
+    let step : let s = c.args.s.now in ScanStep true (found_of (last_in (tree_of s))) s c.loop-at.at c.loop-at.found = scan_step c.loop-at.invariant c.loop-at-test.true in
+    omega (arith, c.u16_at.ensures, (step).long, c.loop-at-test.true)
+
+pub loop-at-preserved : goal.loop-at-preserved
+loop-at-preserved c =
+    let step : let s = c.args.s.now in ScanStep true (found_of (last_in (tree_of s))) s c.loop-at.at c.loop-at.found = scan_step c.loop-at.invariant c.loop-at-test.true in
+    rw (c.later-found.ensures, c.u16_at-kind.ensures, c.u16_at.ensures) (step).next
+
+pub returns : goal.returns
+returns c = scan-ends c.loop-at.invariant c.loop-at-test.false

@@ -1,0 +1,18 @@
+-- `copied` and `copied_list`, which call each other on parts of the source: a part is shorter, and a list counts below the formula that it is. The loop
+-- over the members keeps a `Turn`; each need is a law of it.
+use Prim.Native.Nat.{◌+◌, ◌-◌}
+use lib.ListN.{length}
+use Rattle.replacement.proofs.copying.Turn.{Goes}
+use Rattle.replacement.proofs.copying.+copied_copied_list.Given as goal
+
+abbrev pub invariant-copied_list-loop-left : goal.invariant-copied_list-loop-left
+invariant-copied_list-loop-left l = Goes l.s l.neg l.way l.q l.to l.marks l.initial.out l.out l.l l.at l.left
+
+abbrev pub decreases-copied_list-loop-left : goal.decreases-copied_list-loop-left
+decreases-copied_list-loop-left l = l.left
+
+abbrev pub decreases-copied : goal.decreases-copied
+decreases-copied l = length l.s.now + length l.s.now + 1
+
+abbrev pub decreases-copied_list : goal.decreases-copied_list
+decreases-copied_list l = length l.s.now + length l.s.now
