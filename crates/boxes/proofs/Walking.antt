@@ -11,7 +11,6 @@ use borrow.Author.Tests.{ltb-false, eqb-true}
 use Rattle.reading.specs.Bytes.{le2}
 use Rattle.boxes.specs.Boxes.{box_kind, box_in, sheet_in, line_of, Ending, through, bad_at, Season, walk_at, walk, season}
 use Rattle.boxes.specs.declared.Boxed.{Boxed}
-use Rattle.boxes.specs.declared.Boxed.TheVariants as Boxed
 use Rattle.boxes.specs.declared.Line.{Line}
 use Rattle.boxes.proofs.Lists.{box-over, box-whole}
 

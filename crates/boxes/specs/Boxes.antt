@@ -5,7 +5,6 @@ use Rattle.reading.specs.Bytes.{le2, zeros}
 use Rattle.rules.specs.Eliminate.{Result, eliminate}
 use Rattle.rules.specs.Counts.{Counts, counted}
 use Rattle.boxes.specs.declared.Boxed.{Boxed}
-use Rattle.boxes.specs.declared.Boxed.TheVariants as Boxed
 use Rattle.boxes.specs.declared.Line.{Line}
 use Rattle.boxes.specs.declared.Totals.{Totals}
 

@@ -11,7 +11,6 @@ use Rattle.elimination.specs.Running.{Reached, CountsAll, CountsLeft}
 use Rattle.elimination.specs.declared.Tally.{Tally}
 use Rattle.elimination.specs.declared.Reply.{Reply}
 use Rattle.elimination.specs.declared.Carried.{Carried}
-use Rattle.elimination.specs.declared.Carried.TheVariants as Carried
 
 -- a sheet that reading accepts
 pub record Accepted (s : List ℕ) : Type 0 where

@@ -7,7 +7,6 @@ use Rattle.rules.specs.Pushing.{push}
 use Rattle.rules.specs.Copies.{fits}
 use Rattle.rules.specs.Eliminate.{finished, room_bytes}
 use Rattle.elimination.specs.declared.Finished.{Finished}
-use Rattle.elimination.specs.declared.Finished.TheVariants as Finished
 use Rattle.elimination.specs.Stepping.{held, Stands}
 
 -- the first n bytes of a buffer are a formula that the finishing pass takes: no quantifier is left, no number comes out too big, and what comes

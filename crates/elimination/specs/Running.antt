@@ -11,7 +11,6 @@ use Rattle.elimination.specs.declared.Tally.{Tally}
 use Rattle.rules.specs.Counts.{Counts, counts_of, together}
 use Rattle.reading.specs.declared.Found.{Found}
 use Rattle.reading.specs.declared.Found.TheVariants.{At, Nothing}
-use Rattle.elimination.specs.declared.Ran.TheVariants as Ran
 
 -- the formula in the first n bytes of cur is on the way of f: its run is that of f
 pub record Reached (f : Formula) (n : ℕ) (cur : List ℕ) : Type 0 where

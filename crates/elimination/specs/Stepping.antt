@@ -1,17 +1,14 @@
 -- What the code of a step asks for and promises: the formula that stands at the start of a buffer, before and after, and the splice, which puts the replacement in place of the quantifier and moves the bytes after it.
 use Rattle.std.specs.Prelude.{ℕ, zero, suc, ◌≤◌, ◌+◌, ◌-◌, ◌<◌, ◌≡◌, Bool, false, true, cond, List, ◌++◌, length, take, drop, ℤ, ltb}
 use Rattle.reading.specs.Limits.{result_bytes}
-use Rattle.reading.specs.Formula.{Formula, encode, none}
+use Rattle.reading.specs.Formula.{Formula, encode}
 use Rattle.reading.specs.Reading.{tree_of, Exactly}
 use Rattle.reading.specs.Quantifiers.{Quantifier, nothing, at, last_in}
 use Rattle.rules.specs.Points.{terms}
-use Rattle.rules.specs.Steps.{step, refusal, replacement}
+use Rattle.rules.specs.Steps.{step, refusal}
 use Rattle.elimination.specs.declared.Stepped.{Stepped}
 use Rattle.rules.specs.Eliminate.{room_bytes}
 use Rattle.replacement.specs.declared.Body.{Body}
-use Rattle.replacement.specs.declared.Made.{Made}
-use Rattle.elimination.specs.declared.Stepped.TheVariants as Stepped
-use Rattle.replacement.specs.declared.Made.TheVariants as Made
 use Rattle.replacement.specs.Gathering.{rows_of, Table}
 use Rattle.replacement.specs.Replacing.{Told}
 

@@ -16,7 +16,6 @@ use Rattle.reading.specs.Views.{comparison_case, comparison_case_no, shape_of, s
 use Rattle.reading.specs.declared.Comparison as Code
 use Rattle.reading.specs.declared.Comparison.TheVariants.{Less, AtMost, Equal}
 use Rattle.reading.specs.declared.Shape.{Shape}
-use Rattle.reading.specs.declared.Shape.TheVariants as Shape
 use Rattle.reading.proofs.Laws.{two}
 use Rattle.reading.proofs.Ints.{ints_at}
 use Rattle.reading.proofs.Lengths.{list-long, four-long, begins-long}

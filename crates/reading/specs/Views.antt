@@ -5,7 +5,6 @@ use Rattle.reading.specs.Formula.{Comparison, less, atmost, equal, Formula, Form
 use Rattle.reading.specs.declared.Comparison as Code
 use Rattle.reading.specs.declared.Comparison.TheVariants.{Less, AtMost, Equal}
 use Rattle.reading.specs.declared.Shape.{Shape}
-use Rattle.reading.specs.declared.Shape.TheVariants as Shape
 use Rattle.reading.specs.declared.Window.{Window}
 use Rattle.reading.specs.declared.Binder.{Binder}
 

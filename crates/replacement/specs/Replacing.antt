@@ -8,7 +8,6 @@ use Rattle.rules.specs.Steps.{replacement, numbers_fit}
 use Rattle.replacement.specs.declared.Body.{Body}
 use Rattle.replacement.specs.declared.Copies.{Copies}
 use Rattle.replacement.specs.declared.Made.{Made}
-use Rattle.replacement.specs.declared.Made.TheVariants as Made
 use Rattle.replacement.specs.Listing.{Come, close_of, Space, truth, kept, big, going}
 use Rattle.replacement.specs.Marking.{Marked}
 use Rattle.replacement.specs.Trying.{Lists, Sure}

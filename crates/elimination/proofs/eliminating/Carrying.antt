@@ -38,7 +38,6 @@ use Rattle.elimination.specs.Finishing.{Unquantified, FinishesIn}
 use Rattle.elimination.specs.Eliminating.{Accepted, Gives, Carries}
 use Rattle.elimination.specs.declared.Ran.TheVariants as Ran
 use Rattle.elimination.specs.declared.Carried.{Carried}
-use Rattle.elimination.specs.declared.Carried.TheVariants as Carried
 use Rattle.elimination.specs.declared.Reply.{Reply}
 use Rattle.writing.proofs.Lay.{length-lay}
 use Rattle.elimination.proofs.running.RunLaws.{held-is, stands-as, eliminated-short}

@@ -28,7 +28,6 @@ use Rattle.elimination.specs.declared.Reply.{Reply}
 use Rattle.elimination.specs.declared.Came.{Came}
 use Rattle.elimination.specs.declared.Counted.{Counted}
 use Rattle.elimination.specs.declared.Carried.{Carried}
-use Rattle.elimination.specs.declared.Carried.TheVariants as Carried
 
 none_after : (c : Counts) → together c uncounted ≡ c
 none_after c = ap₂ sum (omega arith) (omega arith)

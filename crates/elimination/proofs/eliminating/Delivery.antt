@@ -18,10 +18,8 @@ use Rattle.reading.specs.Reading.{Exactly}
 use Rattle.reading.proofs.Laws.{ints-long}
 use Rattle.reading.proofs.Lengths.{four-long}
 use Rattle.rules.specs.Lists.{decided, known}
-use Rattle.rules.specs.Copies.{fits}
 use Rattle.rules.specs.Eliminate.{Result, verdict_by, cleared, refused, delivered}
 use Rattle.writing.specs.Writing.{lay}
-use Rattle.replacement.specs.Copying.{came}
 use Rattle.elimination.specs.Stepping.{held, Stands}
 use Rattle.elimination.specs.Eliminating.{Gives}
 use Rattle.elimination.specs.declared.Reply.{Reply}

@@ -1,6 +1,6 @@
 -- 01, 'What the proofs have to settle': any two replies that the promise of a public call allows are equal, and so are all bytes of both buffers.
 -- Assumes nothing.
-use mathlib.Core.Path.{◌≡◌, sym, ◌∙◌, ap, ap₂}
+use mathlib.Core.Path.{◌≡◌, sym, ◌∙◌, ap₂}
 use mathlib.Core.List.{List}
 use Prim.Native.Nat.{ℕ}
 use Rattle.rules.specs.Eliminate.{Result, eliminate, eliminate_in}

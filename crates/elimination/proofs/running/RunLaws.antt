@@ -21,9 +21,7 @@ use Rattle.rules.specs.Counts.{Counts, counts_of, larger, together, terms_at}
 use Rattle.elimination.specs.Stepping.{held, Stands, refusal_at, stepped_of, is_short, Steps}
 use Rattle.elimination.specs.Running.{Reached, RanTo, Runs, RanCounts, is_at, offset_of}
 use Rattle.elimination.specs.declared.Stepped.{Stepped}
-use Rattle.elimination.specs.declared.Stepped.TheVariants as Stepped
 use Rattle.elimination.specs.declared.Ran.{Ran}
-use Rattle.elimination.specs.declared.Ran.TheVariants as Ran
 use Rattle.elimination.specs.declared.Tally.{Tally}
 use Rattle.elimination.specs.declared.Went.{Went}
 use Rattle.rules.specs.Levels.{Wide}

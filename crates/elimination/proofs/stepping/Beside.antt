@@ -15,7 +15,6 @@ use Rattle.writing.specs.Writing.{lay}
 use Rattle.replacement.specs.Replacing.{Put}
 use Rattle.elimination.specs.Stepping.{Splices, Joins}
 use Rattle.elimination.specs.declared.Stepped.{Stepped}
-use Rattle.elimination.specs.declared.Stepped.TheVariants as Stepped
 use Rattle.writing.proofs.Lay.{lay-take, lay-drop, lay-two, length-lay}
 use Rattle.writing.proofs.Moving.{drop-take}
 

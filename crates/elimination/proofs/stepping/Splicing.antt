@@ -13,7 +13,6 @@ use Rattle.writing.proofs.Lay.{lay-take, lay-drop, length-lay}
 use Rattle.writing.proofs.Moving.{part-long, drop-take}
 use Rattle.elimination.specs.Stepping.{spliced_end, Places, Splices}
 use Rattle.elimination.specs.declared.Stepped.{Stepped}
-use Rattle.elimination.specs.declared.Stepped.TheVariants as Stepped
 
 module _ (len o e r : ℕ) (cur work out : List ℕ) (p : Places len o e cur work out) where
   pub splice-over : result_bytes < spliced_end len o e r → Splices len o e r cur cur work work out (Stepped.Refused 12)

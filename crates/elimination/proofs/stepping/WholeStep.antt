@@ -32,7 +32,6 @@ use Rattle.elimination.specs.Stepping.{held, Stands, refusal_at, stepped_of, is_
 use Rattle.replacement.specs.declared.Body.{Body}
 use Rattle.replacement.specs.declared.Made.{Made}
 use Rattle.elimination.specs.declared.Stepped.{Stepped}
-use Rattle.elimination.specs.declared.Stepped.TheVariants as Stepped
 use Rattle.replacement.proofs.Outcomes.{rows_long}
 use Rattle.replacement.proofs.Outcomes.{Found}
 use Rattle.writing.proofs.Moving.{drop-take}

@@ -17,10 +17,9 @@ use Rattle.reading.specs.Views.{comparison_case, comparison_case_no, shape_of, I
 use Rattle.reading.specs.declared.Comparison as Code
 use Rattle.reading.specs.declared.Comparison.TheVariants.{Less, AtMost, Equal}
 use Rattle.reading.specs.declared.Shape.TheVariants as Shape
-use Rattle.reading.specs.declared.Window.{Window}
 use Rattle.reading.proofs.Viewing.{case-number, shape-atom}
 use Rattle.reading.proofs.Walking.{atom-is}
-use Rattle.exact.specs.Numbers.{Within, Each, single, at}
+use Rattle.exact.specs.Numbers.{Within, Each, single}
 use Rattle.exact.specs.Atoms.{Came, new, atom_at, fitting, no_variable, comparison_of, spot_of}
 use Rattle.exact.specs.Divisor.{gcds}
 use Rattle.exact.specs.declared.Point.{Point}

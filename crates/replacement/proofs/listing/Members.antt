@@ -3,7 +3,6 @@ use mathlib.Core.Path.{◌≡◌, refl, sym, ◌∙◌, ap, ap₂, subst}
 use mathlib.Core.Bool as Bool
 use mathlib.Core.Bool.{Bool, true, false}
 use mathlib.Core.List.{List, [], ◌++◌, append_assoc, append-nil}
-use mathlib.Core.Logic.{◌⊎◌, inl, inr}
 use Prim.Native.Nat.{ℕ, ◌+◌, ◌-◌, ◌≤◌}
 use native.Mathlib.Nat.{add-zero}
 use native.Mathlib.Omega.{arith}
@@ -16,8 +15,6 @@ use Rattle.replacement.specs.Listing.{Come, truth, kept, big, going, snoc, add, 
 use Rattle.replacement.specs.declared.Copied.{Copied}
 use Rattle.replacement.specs.declared.Copied.TheVariants.{Decided, Kept, Big}
 use Rattle.replacement.specs.declared.Open.{Open}
-use denote.Enum.Declared.{tag_of}
-use Rattle.replacement.specs.contracts.Copied.{the_type}
 use Rattle.writing.proofs.Lay.{lay-take, lay-drop, keeps, cancel}
 
 -- ---- members and their bytes

@@ -9,12 +9,12 @@ use native.Mathlib.Omega.{arith}
 use lib.IntN.{ℤ}
 use lib.ListN.{length, take, length-append}
 use Rattle.reading.specs.Limits.{result_bytes}
-use Rattle.reading.specs.Formula.{Formula, Formulas, not, list, quant, none, more, count, encode, encodes, record_bytes, field_bytes}
+use Rattle.reading.specs.Formula.{Formula, Formulas, list, none, more, count, encode, encodes, record_bytes, field_bytes}
 use Rattle.exact.specs.Atoms.{Spot}
 use Rattle.rules.specs.Pushing.{push}
 use Rattle.rules.specs.Lists.{decided_by, stay, listed}
 use Rattle.rules.specs.Copies.{copy, fits}
-use Rattle.rules.specs.Points.{gather, terms, points, spot_fits}
+use Rattle.rules.specs.Points.{terms, points, spot_fits}
 use Rattle.rules.specs.Steps.{copies, replacement, numbers_fit}
 use Rattle.writing.specs.Writing.{lay, list_bytes}
 use Rattle.replacement.specs.Listing.{Come, truth, kept, big, come_of, Tally, over, going, tally, close_of, bytes_of, big_of, Wrote, Closes}

@@ -15,7 +15,6 @@ use Rattle.reading.specs.Formula.{Comparison, Formula, Formulas, atom, not, list
 use Rattle.reading.specs.Reading.{tree_of, Begins}
 use Rattle.reading.specs.Views.{shape_of, IsAtom, IsWindow, numbers_of, window_of}
 use Rattle.reading.specs.declared.Shape.{Shape}
-use Rattle.reading.specs.declared.Shape.TheVariants as Shape
 use Rattle.reading.proofs.Scan.{◌and◌, rest_of}
 use Rattle.exact.specs.Numbers.{at, is_zero}
 use Rattle.exact.specs.Terms.{left_at}

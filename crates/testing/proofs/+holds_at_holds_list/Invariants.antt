@@ -1,8 +1,6 @@
 -- A formula at the values: the walk of `Walking`, and what is true of the members so far. The bytes that are left fall at each call.
-use Prim.Native.Nat.{◌+◌, ◌-◌}
+use Prim.Native.Nat.{◌+◌}
 use lib.ListN.{length}
-use Rattle.exact.specs.Numbers.{at}
-use Rattle.exact.specs.Atoms.{holds}
 use Rattle.testing.proofs.TestLaws.{TestLoop}
 use Rattle.testing.proofs.+holds_at_holds_list.Given as goal
 

@@ -18,8 +18,8 @@ added-hi-requires c = record { within = in-lit tt; within_2 = in-rd c.requires.w
 
 pub returns-then-lo-p : goal.returns-then-lo-p
 returns-then-lo-p c =
-    let above : to_z w64 (of_z w64 c.added-hi.result) ≡ c.args.b.hi *ℤ at c.args.w 8 =     rd (ok c.added-hi.result c.added-hi.type_inv) ∙ c.added-hi.ensures ∙ +ℤ_idl _ ∙ ap₂ ◌*ℤ◌ (rd (fits c.requires.within_2 tt)) (rd-at c.requires.each tt 8) in
-    let below : to_z w64 (of_z w64 c.added-lo.result) ≡ c.args.b.lo *ℤ at c.args.w 8 =     rd (ok c.added-lo.result c.added-lo.type_inv) ∙ c.added-lo.ensures ∙ +ℤ_idl _ ∙ ap₂ ◌*ℤ◌ (rd (fits c.requires.within tt)) (rd-at c.requires.each tt 8) in
+    let above : to_z w64 (of_z w64 c.added-hi.result) ≡ c.args.b.hi *ℤ at c.args.w 8 = rd (ok c.added-hi.result c.added-hi.type_inv) ∙ c.added-hi.ensures ∙ +ℤ_idl _ ∙ ap₂ ◌*ℤ◌ (rd (fits c.requires.within_2 tt)) (rd-at c.requires.each tt 8) in
+    let below : to_z w64 (of_z w64 c.added-lo.result) ≡ c.args.b.lo *ℤ at c.args.w 8 = rd (ok c.added-lo.result c.added-lo.type_inv) ∙ c.added-lo.ensures ∙ +ℤ_idl _ ∙ ap₂ ◌*ℤ◌ (rd (fits c.requires.within tt)) (rd-at c.requires.each tt 8) in
     let i = c.args.b in
     let w = c.args.w in
     let v = rd-at c.requires.each tt i.variable in
@@ -27,7 +27,7 @@ returns-then-lo-p c =
 
 pub returns : goal.returns
 returns c =
-    let below : to_z w64 (of_z w64 c.added-lo.result) ≡ c.args.b.lo *ℤ at c.args.w 8 =     rd (ok c.added-lo.result c.added-lo.type_inv) ∙ c.added-lo.ensures ∙ +ℤ_idl _ ∙ ap₂ ◌*ℤ◌ (rd (fits c.requires.within tt)) (rd-at c.requires.each tt 8) in
+    let below : to_z w64 (of_z w64 c.added-lo.result) ≡ c.args.b.lo *ℤ at c.args.w 8 = rd (ok c.added-lo.result c.added-lo.type_inv) ∙ c.added-lo.ensures ∙ +ℤ_idl _ ∙ ap₂ ◌*ℤ◌ (rd (fits c.requires.within tt)) (rd-at c.requires.each tt 8) in
     let i = c.args.b in
     let w = c.args.w in
     let v = rd-at c.requires.each tt i.variable in

@@ -1,6 +1,6 @@
 -- The sum of nine products, from the front; its size is a law, not part of what the loop keeps.
 use mathlib.Core.Path.{sym, ◌∙◌, ap₂, subst}
-use Prim.Native.Nat.{◌+◌, ◌-◌, zero-le}
+use Prim.Native.Nat.{◌+◌, zero-le}
 use native.Mathlib.Omega.{arith}
 use lib.IntN.{ℤ, ◌+ℤ◌, ◌*ℤ◌}
 use mir.Syntax.{w64}

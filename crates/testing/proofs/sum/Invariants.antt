@@ -1,6 +1,5 @@
 -- The sum of nine products, from the front; its size is a law, not part of what the loop keeps.
 use Prim.Native.Nat.{◌-◌, ◌≤◌}
-
 use Rattle.testing.proofs.TestLaws.{Summed}
 use Rattle.testing.proofs.sum.Given as goal
 

@@ -16,7 +16,7 @@ overflow_add-result c = fits-as (ap (λ (z : ℤ). z +ℤ pos 4294967296) (rd c.
 
 pub overflow_cast-result : goal.overflow_cast-result
 overflow_cast-result c =
-    let sum : to_z w64 (of_z w64 (to_z w64 (of_z w64 c.args.x) +ℤ pos 4294967296)) ≡ pos (of_z w32 c.args.x) =     rd (overflow_add-result (goal.at.overflow_cast-result c).Then-x-lt0) ∙ ap (λ (z : ℤ). z +ℤ pos 4294967296) (rd c.ranges.x) ∙ bits-high c.args.x (lt-taken (pos 0) c.ranges.x c.if-x-lt0.true) c.requires in
+    let sum : to_z w64 (of_z w64 (to_z w64 (of_z w64 c.args.x) +ℤ pos 4294967296)) ≡ pos (of_z w32 c.args.x) = rd (overflow_add-result (goal.at.overflow_cast-result c).Then-x-lt0) ∙ ap (λ (z : ℤ). z +ℤ pos 4294967296) (rd c.ranges.x) ∙ bits-high c.args.x (lt-taken (pos 0) c.ranges.x c.if-x-lt0.true) c.requires in
     subst (λ (z : ℤ). T (non_neg z) × Fits w32 (nat_abs z)) (sym (sum)) (tt, record { fits = bits_fit c.args.x c.requires })
 
 pub overflow_cast-result-else-x-lt0 : goal.overflow_cast-result-else-x-lt0
@@ -26,7 +26,7 @@ overflow_cast-result-else-x-lt0 c =
 
 pub returns-then-x-lt0 : goal.returns-then-x-lt0
 returns-then-x-lt0 c =
-    let sum : to_z w64 (of_z w64 (to_z w64 (of_z w64 c.args.x) +ℤ pos 4294967296)) ≡ pos (of_z w32 c.args.x) =     rd (overflow_add-result (goal.at.returns-then-x-lt0 c).Then-x-lt0) ∙ ap (λ (z : ℤ). z +ℤ pos 4294967296) (rd c.ranges.x) ∙ bits-high c.args.x (lt-taken (pos 0) c.ranges.x c.if-x-lt0.true) c.requires in
+    let sum : to_z w64 (of_z w64 (to_z w64 (of_z w64 c.args.x) +ℤ pos 4294967296)) ≡ pos (of_z w32 c.args.x) = rd (overflow_add-result (goal.at.returns-then-x-lt0 c).Then-x-lt0) ∙ ap (λ (z : ℤ). z +ℤ pos 4294967296) (rd c.ranges.x) ∙ bits-high c.args.x (lt-taken (pos 0) c.ranges.x c.if-x-lt0.true) c.requires in
     ap nat_abs (sum)
 
 pub returns-else-x-lt0 : goal.returns-else-x-lt0

@@ -1,6 +1,6 @@
 -- `put_nums`: after i turns, the numbers that are left, laid over what is there now, give the whole.
 use mathlib.Core.Path.{◌≡◌, refl, sym, subst}
-use Prim.Native.Nat.{◌-◌, ◌≤◌, ◌<◌, zero-le}
+use Prim.Native.Nat.{◌≤◌, ◌<◌, zero-le}
 use native.Mathlib.Omega.{arith}
 use lib.ListN.{length}
 use borrow.Author.Rules.{rules}

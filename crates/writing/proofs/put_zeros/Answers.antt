@@ -1,5 +1,4 @@
 -- `put_zeros`: the zeros that are left, laid over what is there now, give the whole.
-use Prim.Native.Nat.{◌-◌}
 use native.Mathlib.Omega.{arith}
 use lib.ListN.{length-set}
 use Rattle.writing.proofs.Lay.{zeros-turn, zeros-end}

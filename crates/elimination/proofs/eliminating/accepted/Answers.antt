@@ -13,7 +13,6 @@ use Rattle.elimination.specs.Running.{CountsLeft}
 use Rattle.elimination.specs.Eliminating.{Carries, CarriedCounts, untallied, sheet_room}
 use Rattle.elimination.specs.declared.Carried.{Carried}
 use Rattle.elimination.specs.declared.Tally.{Tally}
-use Rattle.elimination.specs.declared.Carried.TheVariants as Carried
 use Rattle.elimination.proofs.eliminating.Carrying.{gives-from, carries-from}
 use Rattle.elimination.proofs.eliminating.CountLaws.{counted-as, counts-from, all_from, few-from, few-sheet}
 use Rattle.elimination.proofs.eliminating.accepted.Goals as goal

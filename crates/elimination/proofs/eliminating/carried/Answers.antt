@@ -8,7 +8,6 @@ use Rattle.elimination.specs.Stepping.{held}
 use Rattle.elimination.specs.Running.{Runs, RanCounts}
 use Rattle.elimination.specs.Eliminating.{Carries}
 use Rattle.elimination.specs.declared.Ran.{Ran}
-use Rattle.elimination.specs.declared.Ran.TheVariants as Ran
 use Rattle.elimination.proofs.running.RunLaws.{held-long}
 use Rattle.elimination.proofs.eliminating.Carrying.{gives-from, carries-from, Left, run-left}
 use Rattle.elimination.proofs.eliminating.CountLaws.{came-as, counts-ended}

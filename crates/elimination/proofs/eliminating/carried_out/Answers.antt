@@ -5,7 +5,7 @@ use Rattle.rules.specs.Eliminate.{room_bytes}
 use Rattle.elimination.specs.Stepping.{held}
 use Rattle.elimination.specs.Eliminating.{Carries, CarriedCounts}
 use Rattle.elimination.specs.declared.Carried.{Carried}
-use Rattle.elimination.proofs.eliminating.Carrying.{carries-zeros, carried-done, never-short}
+use Rattle.elimination.proofs.eliminating.Carrying.{carried-done, never-short}
 use Rattle.elimination.proofs.eliminating.CountLaws.{counted-as}
 use Rattle.elimination.proofs.eliminating.carried_out.Goals as goal
 use Rattle.elimination.proofs.eliminating.carried_out.Goals.{After-carried_in-c}

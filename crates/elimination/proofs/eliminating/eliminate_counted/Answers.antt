@@ -9,9 +9,9 @@ use Rattle.elimination.proofs.eliminating.eliminate_counted.Goals as goal
 
 pub returns-then-res-lt-RESULT_BYTES : goal.returns-then-res-lt-RESULT_BYTES
 returns-then-res-lt-RESULT_BYTES c = let h = c.if-res-lt-RESULT_BYTES.true in (
-      gives-no 1 0 c.args.res.now c.args.work.now c.counted.result.reply (eliminate c.args.sheet.now c.args.res.now c.args.work.now) (result-small c.args.sheet.now c.args.res.now c.args.work.now h) (c.counted.ensures.0 ∙ c.refused.ensures),
-      ap tallied (c.counted.ensures.1 ∙ c.nothing.ensures) ∙ sym (no_result c.args.sheet.now c.args.res.now c.args.work.now h),
-    )
+  gives-no 1 0 c.args.res.now c.args.work.now c.counted.result.reply (eliminate c.args.sheet.now c.args.res.now c.args.work.now) (result-small c.args.sheet.now c.args.res.now c.args.work.now h) (c.counted.ensures.0 ∙ c.refused.ensures),
+  ap tallied (c.counted.ensures.1 ∙ c.nothing.ensures) ∙ sym (no_result c.args.sheet.now c.args.res.now c.args.work.now h),
+)
 
 pub returns-then-work-lt-RESULT_BYTES : goal.returns-then-work-lt-RESULT_BYTES
 returns-then-work-lt-RESULT_BYTES c = let l = c.if-res-lt-RESULT_BYTES.false in

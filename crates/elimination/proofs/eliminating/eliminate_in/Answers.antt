@@ -21,24 +21,24 @@ enough c = subst (λ (n : ℕ). n ≤ length c.args.room.now) c.room_asked-least
 
 pub returns-then-res-lt-RESULT_BYTES : goal.returns-then-res-lt-RESULT_BYTES
 returns-then-res-lt-RESULT_BYTES c = (
-      gives-no 1 0 c.args.res.now c.args.work.now c.refused.result (eliminate_in (length c.args.room.now) c.args.sheet.now c.args.res.now c.args.work.now)
-          (in_small (length c.args.room.now) c.args.sheet.now c.args.res.now c.args.work.now (result-small c.args.sheet.now c.args.res.now c.args.work.now c.if-res-lt-RESULT_BYTES.true)) c.refused.ensures,
-      refl,
-    )
+  gives-no 1 0 c.args.res.now c.args.work.now c.refused.result (eliminate_in (length c.args.room.now) c.args.sheet.now c.args.res.now c.args.work.now)
+      (in_small (length c.args.room.now) c.args.sheet.now c.args.res.now c.args.work.now (result-small c.args.sheet.now c.args.res.now c.args.work.now c.if-res-lt-RESULT_BYTES.true)) c.refused.ensures,
+  refl,
+)
 
 pub returns-then-work-lt-RESULT_BYTES : goal.returns-then-work-lt-RESULT_BYTES
 returns-then-work-lt-RESULT_BYTES c = (
-      gives-no 1 0 c.args.res.now c.args.work.now c.refused-then-work-lt-RESULT_BYTES.result (eliminate_in (length c.args.room.now) c.args.sheet.now c.args.res.now c.args.work.now)
-          (in_small (length c.args.room.now) c.args.sheet.now c.args.res.now c.args.work.now (work-small c.args.sheet.now c.args.res.now c.args.work.now c.if-res-lt-RESULT_BYTES.false c.if-work-lt-RESULT_BYTES.true)) c.refused-then-work-lt-RESULT_BYTES.ensures,
-      refl,
-    )
+  gives-no 1 0 c.args.res.now c.args.work.now c.refused-then-work-lt-RESULT_BYTES.result (eliminate_in (length c.args.room.now) c.args.sheet.now c.args.res.now c.args.work.now)
+      (in_small (length c.args.room.now) c.args.sheet.now c.args.res.now c.args.work.now (work-small c.args.sheet.now c.args.res.now c.args.work.now c.if-res-lt-RESULT_BYTES.false c.if-work-lt-RESULT_BYTES.true)) c.refused-then-work-lt-RESULT_BYTES.ensures,
+  refl,
+)
 
 pub returns-then-room-least : goal.returns-then-room-least
 returns-then-room-least c = (
-      gives-no 1 0 c.args.res.now c.args.work.now c.refused-then-room-least.result (eliminate_in (length c.args.room.now) c.args.sheet.now c.args.res.now c.args.work.now)
-          (room_small (length c.args.room.now) c.args.sheet.now c.args.res.now c.args.work.now (subst (λ (n : ℕ). length c.args.room.now < n) c.room_asked-least.ensures c.if-room-least.true)) c.refused-then-room-least.ensures,
-      refl,
-    )
+  gives-no 1 0 c.args.res.now c.args.work.now c.refused-then-room-least.result (eliminate_in (length c.args.room.now) c.args.sheet.now c.args.res.now c.args.work.now)
+      (room_small (length c.args.room.now) c.args.sheet.now c.args.res.now c.args.work.now (subst (λ (n : ℕ). length c.args.room.now < n) c.room_asked-least.ensures c.if-room-least.true)) c.refused-then-room-least.ensures,
+  refl,
+)
 
 pub slice_bounds-accepted_in-end : goal.slice_bounds-accepted_in-end
 slice_bounds-accepted_in-end c = c.if-room-least.false
@@ -54,11 +54,11 @@ accepted_in-c-requires c =
 
 pub returns-in-Refused : goal.returns-in-Refused
 returns-in-Refused c = (
-      gives-no c.in-Refused.number c.in-Refused.place c.args.res.now c.args.work.now c.refused-in-Refused.result (eliminate_in (length c.args.room.now) c.args.sheet.now c.args.res.now c.args.work.now)
-          (in-room (length c.args.room.now) c.args.sheet.now c.args.res.now c.args.work.now (enough (goal.at.returns-in-Refused c).Else-room-least)
-          ∙ sheet-refused c.args.sheet.now c.args.res.now c.args.work.now c.in-Refused.number c.in-Refused.place (sym c.read_whole.ensures ∙ c.in-Refused.is) c.if-res-lt-RESULT_BYTES.false c.if-work-lt-RESULT_BYTES.false) c.refused-in-Refused.ensures,
-      refl,
-    )
+  gives-no c.in-Refused.number c.in-Refused.place c.args.res.now c.args.work.now c.refused-in-Refused.result (eliminate_in (length c.args.room.now) c.args.sheet.now c.args.res.now c.args.work.now)
+      (in-room (length c.args.room.now) c.args.sheet.now c.args.res.now c.args.work.now (enough (goal.at.returns-in-Refused c).Else-room-least)
+      ∙ sheet-refused c.args.sheet.now c.args.res.now c.args.work.now c.in-Refused.number c.in-Refused.place (sym c.read_whole.ensures ∙ c.in-Refused.is) c.if-res-lt-RESULT_BYTES.false c.if-work-lt-RESULT_BYTES.false) c.refused-in-Refused.ensures,
+  refl,
+)
 
 pub shape_of-res : goal.shape_of-res
 shape_of-res c = c.accepted_in-c.auto.res
@@ -72,8 +72,7 @@ shape_of-room c = length_front c.args.room.now c.accepted_in-c.new.room c.room_a
 pub returns-in-Done : goal.returns-in-Done
 returns-in-Done c =
     let was_read : reading sheet_bytes sheet_levels c.args.sheet.now ≡ Reading.Done c.in-Done.field-0 = sym c.read_whole.ensures ∙ c.in-Done.is in
-    let allowed : Accepted c.args.sheet.now = reading-accepts c.args.sheet.now c.in-Done.field-0 (λ i. (c.shared_slice_known-1.given i).fits) was_read in
-    (
+    let allowed : Accepted c.args.sheet.now = reading-accepts c.args.sheet.now c.in-Done.field-0 (λ i. (c.shared_slice_known-1.given i).fits) was_read in (
       subst (λ (o : Result). Gives o c.accepted_in-c.result.reply c.accepted_in-c.new.res c.accepted_in-c.new.work)
           (sym (in-room (length c.args.room.now) c.args.sheet.now c.args.res.now c.args.work.now (enough (goal.at.returns-in-Done c).Else-room-least)
           ∙ sheet-accepted c.args.sheet.now c.args.res.now c.args.work.now c.in-Done.field-0 was_read allowed c.if-res-lt-RESULT_BYTES.false c.if-work-lt-RESULT_BYTES.false))

@@ -8,7 +8,6 @@ use Rattle.rules.specs.Counts.{counts_of}
 use Rattle.elimination.specs.Stepping.{held}
 use Rattle.elimination.specs.Finishing.{Finishes}
 use Rattle.elimination.specs.declared.Finished.{Finished}
-use Rattle.elimination.specs.declared.Finished.TheVariants as Finished
 use Rattle.elimination.proofs.eliminating.Carrying.{finished-exactly, ended-gives, ended-wants}
 use Rattle.elimination.proofs.eliminating.CountLaws.{free-none}
 use Rattle.elimination.proofs.eliminating.ended.Goals as goal

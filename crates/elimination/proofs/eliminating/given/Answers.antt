@@ -43,10 +43,10 @@ shape_of-work c = c.clear.auto.d
 
 pub returns : goal.returns
 returns c = given-short c.args.end c.args.sheet c.args.res.now c.args.work.now _ c.put_zeros.new.d c.clear.new.d c.if-end-gt-RESULT_BYTES.false (
-      refl,
-      c.verdict.ensures ∙ ap (λ (g : Formula). verdict_by (known g)) (result-known (stands (goal.at.returns c).After-put_zeros) c.put_zeros.new.d c.put_zeros.ensures),
-      refl,
-      sym (held-long c.args.end c.args.res.now (stands (goal.at.returns c).After-put_zeros)),
-      result-is (stands (goal.at.returns c).After-put_zeros) c.put_zeros.new.d c.put_zeros.ensures,
-      c.clear.ensures,
-    )
+  refl,
+  c.verdict.ensures ∙ ap (λ (g : Formula). verdict_by (known g)) (result-known (stands (goal.at.returns c).After-put_zeros) c.put_zeros.new.d c.put_zeros.ensures),
+  refl,
+  sym (held-long c.args.end c.args.res.now (stands (goal.at.returns c).After-put_zeros)),
+  result-is (stands (goal.at.returns c).After-put_zeros) c.put_zeros.new.d c.put_zeros.ensures,
+  c.clear.ensures,
+)

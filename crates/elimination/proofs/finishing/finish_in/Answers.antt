@@ -37,13 +37,13 @@ slice_bounds-copied-end-2 c = let s = c.requires.unquantified.stands in
 
 pub copied-requires : goal.copied-requires
 copied-requires c = record {
-      begins = begins c.requires.unquantified.stands.exactly;
-      free = c.requires.unquantified.free;
-      point = c.no_point.ensures.0;
-      calm = λ e. ap (λ (s : Spot). fits s (push false (source (goal.at.copied-requires c).Start))) c.no_point.ensures.1 ∙ c.requires.unquantified.numbers;
-      marks = λ e. let z : ◌≡◌ {A = ℕ} 0 1 = cc in absurd (omega arith);
-      room = omega (arith, held-long c.args.len c.args.cur.now c.requires.unquantified.stands, c.requires.len_in_bounds);
-    }
+  begins = begins c.requires.unquantified.stands.exactly;
+  free = c.requires.unquantified.free;
+  point = c.no_point.ensures.0;
+  calm = λ e. ap (λ (s : Spot). fits s (push false (source (goal.at.copied-requires c).Start))) c.no_point.ensures.1 ∙ c.requires.unquantified.numbers;
+  marks = λ e. let z : ◌≡◌ {A = ℕ} 0 1 = cc in absurd (omega arith);
+  room = omega (arith, held-long c.args.len c.args.cur.now c.requires.unquantified.stands, c.requires.len_in_bounds);
+}
 
 pub put_list-requires : goal.put_list-requires
 put_list-requires c = (omega (arith, c.requires.unquantified.stands.long), omega arith)

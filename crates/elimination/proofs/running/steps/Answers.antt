@@ -12,7 +12,6 @@ use Rattle.rules.specs.Counts.{larger}
 use Rattle.elimination.specs.Stepping.{held}
 use Rattle.elimination.specs.Running.{Runs, RanTo, is_at}
 use Rattle.elimination.specs.declared.Ran.{Ran}
-use Rattle.elimination.specs.declared.Ran.TheVariants as Ran
 use Rattle.elimination.proofs.running.RunLaws.{Next, run-begins, run-asks, run-next, run-stopped, run-wants, run-finishes, Counting, counted-left, count_next, count_room, count-stopped, count-wants, count-ends, went-as}
 use Rattle.elimination.proofs.running.steps.Goals as goal
 use Rattle.elimination.proofs.running.steps.Goals.{After-larger-most, After-one_step-u, In-Fine, In-loop-left}

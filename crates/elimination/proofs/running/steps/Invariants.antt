@@ -10,7 +10,7 @@ use Rattle.elimination.proofs.running.RunLaws.{RunTurn, Counting}
 use Rattle.elimination.proofs.running.steps.Given as goal
 
 abbrev pub invariant-loop-left : goal.invariant-loop-left
-invariant-loop-left l =     RunTurn (held l.len l.initial.cur) l.n l.cur l.found × (l.left ≡ is_at l.found) × (drop result_bytes l.cur ≡ drop result_bytes l.initial.cur) × (drop result_bytes l.work ≡ drop result_bytes l.initial.work)
+invariant-loop-left l = RunTurn (held l.len l.initial.cur) l.n l.cur l.found × (l.left ≡ is_at l.found) × (drop result_bytes l.cur ≡ drop result_bytes l.initial.cur) × (drop result_bytes l.work ≡ drop result_bytes l.initial.work)
     × (length l.cur ≡ length l.initial.cur) × (length l.work ≡ length l.initial.work) × (length l.room ≡ length l.initial.room) × Counting (held l.len l.initial.cur) l.initial.done l.initial.most (held l.n l.cur) l.done l.most
 
 abbrev pub decreases-loop-left : goal.decreases-loop-left

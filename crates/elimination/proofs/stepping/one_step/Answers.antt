@@ -140,8 +140,12 @@ body_of-body-requires c = let q = last (goal.at.body_of-body-requires c).Start i
 pub step_with-r-requires : goal.step_with-r-requires
 step_with-r-requires c =
     let long : 640 ≡ length c.gather-g.new.ts = search rules in
-    let q = last (goal.at.step_with-r-requires c).Start in record { stands = c.requires.stands; result_bytes_in_bounds = c.requires.result_bytes_in_bounds; poised = poised c.requires.stands q.is c.binder_at-b.result c.body_of-body.result c.in-Fine.n c.in-Fine.used c.gather-g.new.ts c.body_of-body.new.marks (said (goal.at.step_with-r-requires c).After-binder_at-b)
-            c.body_of-body.ensures (found (goal.at.step_with-r-requires c).In-Fine) (record { long = sym long; few = (found (goal.at.step_with-r-requires c).In-Fine).most; small = c.gather-g.ensures.small }) }
+    let q = last (goal.at.step_with-r-requires c).Start in record {
+      stands = c.requires.stands;
+      result_bytes_in_bounds = c.requires.result_bytes_in_bounds;
+      poised = poised c.requires.stands q.is c.binder_at-b.result c.body_of-body.result c.in-Fine.n c.in-Fine.used c.gather-g.new.ts c.body_of-body.new.marks (said (goal.at.step_with-r-requires c).After-binder_at-b)
+          c.body_of-body.ensures (found (goal.at.step_with-r-requires c).In-Fine) (record { long = sym long; few = (found (goal.at.step_with-r-requires c).In-Fine).most; small = c.gather-g.ensures.small });
+    }
 
 pub returns-in-Full : goal.returns-in-Full
 returns-in-Full c = let q = last (goal.at.returns-in-Full c).Start in

@@ -60,15 +60,15 @@ splice-requires c =
 
 pub returns-in-Fine : goal.returns-in-Fine
 returns-in-Fine c = record {
-      tried = step-fine c.requires.stands c.requires.poised (made_as (goal.at.returns-in-Fine c).After-made-m _ c.in-Fine.is) c.splice.ensures;
-      roomy = λ y. absurd (true≢false (sym y ∙ spliced-ends c.splice.ensures));
-    }
+  tried = step-fine c.requires.stands c.requires.poised (made_as (goal.at.returns-in-Fine c).After-made-m _ c.in-Fine.is) c.splice.ensures;
+  roomy = λ y. absurd (true≢false (sym y ∙ spliced-ends c.splice.ensures));
+}
 
 pub returns-in-Big : goal.returns-in-Big
 returns-in-Big c = record {
-      tried = step-big c.requires.stands c.requires.poised c.args.work.now c.args.work.now (made_as (goal.at.returns-in-Big c).After-made-m _ c.in-Big.is) refl;
-      roomy = λ y. absurd (true≢false (sym y));
-    }
+  tried = step-big c.requires.stands c.requires.poised c.args.work.now c.args.work.now (made_as (goal.at.returns-in-Big c).After-made-m _ c.in-Big.is) refl;
+  roomy = λ y. absurd (true≢false (sym y));
+}
 
 pub returns-in-Short : goal.returns-in-Short
 returns-in-Short c = step-wanting c.requires.stands c.requires.poised (length c.args.room.now) c.args.work.now (made_as (goal.at.returns-in-Short c).After-made-m _ c.in-Short.is)

@@ -21,9 +21,9 @@ beside-as c r e = subst (λ (y : Stepped). Tried (held c.args.len c.args.cur.now
 untouched : (c : Joined-fits_beside) → (c.if-fits_beside.cur ≡ c.args.cur.now) × (drop result_bytes c.if-fits_beside.work ≡ drop result_bytes c.args.work.now) × (length c.if-fits_beside.work ≡ length c.args.work.now)
 untouched c =
     elim c.if-fits_beside.branch [
-      then-fits_beside+in-Short w ↦
-        let t = subst (λ (y : Stepped). Tried (held c.args.len c.args.cur.now) c.args.cur.now w.step_beside-r.new.cur c.args.work.now w.step_beside-r.new.work y) w.in-Short.is w.step_beside-r.ensures in
-        (w.cur-is ∙ t.again refl, ap (drop result_bytes) w.work-is ∙ t.work_rest, ap length w.work-is ∙ omega arith)
+      | then-fits_beside+in-Short w ↦
+          let t = subst (λ (y : Stepped). Tried (held c.args.len c.args.cur.now) c.args.cur.now w.step_beside-r.new.cur c.args.work.now w.step_beside-r.new.work y) w.in-Short.is w.step_beside-r.ensures in
+          (w.cur-is ∙ t.again refl, ap (drop result_bytes) w.work-is ∙ t.work_rest, ap length w.work-is ∙ omega arith)
       | else-fits_beside w ↦ (w.cur-is, ap (drop result_bytes) w.work-is, ap length w.work-is)
     ]
 

@@ -1,6 +1,6 @@
 -- `at_point` meets its contract: after i turns, the first i of nine numbers are a·n + d·t (`Filled`). Assumes nothing.
 use mathlib.Core.Path.{◌≡◌, refl, sym, ◌∙◌, ap₂, subst}
-use Prim.Native.Nat.{◌-◌, zero-le}
+use Prim.Native.Nat.{zero-le}
 use native.Mathlib.Omega.{arith}
 use lib.IntN.{◌+ℤ◌, ◌*ℤ◌}
 use mir.Syntax.{w64}

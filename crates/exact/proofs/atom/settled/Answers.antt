@@ -11,7 +11,6 @@ use Rattle.exact.specs.Numbers.{Each, all_in}
 use Rattle.exact.specs.Atoms.{sure, comparison_of, holds, put_of}
 use Rattle.exact.specs.declared.Outcome.TheVariants.{New}
 use Rattle.exact.proofs.Rows.{each-reduced, rd-at}
-use Rattle.exact.proofs.Sizes.{fits}
 use Rattle.exact.proofs.Atoms.{settled-new, settled-sure}
 use Rattle.exact.proofs.atom.settled.Goals as goal
 

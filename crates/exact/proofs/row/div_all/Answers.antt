@@ -1,6 +1,6 @@
 -- `div_all` meets its contract: after i turns, the first i numbers are divided and the others are as they were (`Mapped`). Assumes nothing.
 use mathlib.Core.Path.{◌≡◌, refl, sym, ◌∙◌, ap, subst}
-use Prim.Native.Nat.{ℕ, ◌≤◌, ◌<◌, ◌-◌}
+use Prim.Native.Nat.{ℕ, ◌≤◌, ◌<◌}
 use lib.ListN.{get_or}
 use lib.IntN.{pos}
 use Rattle.exact.specs.Numbers.{Within}

@@ -1,7 +1,7 @@
 -- `gcd_all` meets its contract: after i turns, g and the numbers from i on have the divisor of the whole row; a zero keeps g, and
 -- where g is 1 that is the divisor of the row. Assumes nothing.
 use mathlib.Core.Path.{◌≡◌, refl, sym, ◌∙◌, ap}
-use Prim.Native.Nat.{ℕ, ◌-◌, ◌+◌, zero-le}
+use Prim.Native.Nat.{ℕ, ◌+◌, zero-le}
 use native.Mathlib.Omega.{arith}
 use lib.ListN.{drop, get_or}
 use lib.IntN.{pos, nat_abs}
@@ -21,7 +21,7 @@ abs-a-requires c = in-at c.requires tt c.loop-i.i
 pub returns-then-g-eq1 : goal.returns-then-g-eq1
 returns-then-g-eq1 c =
     let seen : c.abs-a.result ≡ nat_abs (get_or c.args.s.now c.loop-i.i (pos 0)) = c.abs-a.ensures ∙ ap nat_abs (rd-at c.requires tt c.loop-i.i) in
-    let found : c.gcd-g.result ≡ gcd_of c.loop-i.g (nat_abs (get_or c.args.s.now c.loop-i.i (pos 0))) =     c.gcd-g.ensures ∙ gcd-comm _ c.loop-i.g ∙ ap (gcd_of c.loop-i.g) (seen) in
+    let found : c.gcd-g.result ≡ gcd_of c.loop-i.g (nat_abs (get_or c.args.s.now c.loop-i.i (pos 0))) = c.gcd-g.ensures ∙ gcd-comm _ c.loop-i.g ∙ ap (gcd_of c.loop-i.g) (seen) in
     let s = c.args.s.now in
     sym (from_one (drop (c.loop-i.i + 1) s)) ∙ ap (λ (n : ℕ). gcd_from n (drop (c.loop-i.i + 1) s)) (sym c.if-g-eq1.true ∙ found)
     ∙ gcd-turn s c.loop-i.i c.loop-i.g c.loop-i-test.true ∙ c.loop-i.invariant.1
@@ -32,10 +32,10 @@ loop-i-preserved c =
     let h = c.loop-i-test.true in
     let seen : c.abs-a.result ≡ nat_abs (get_or s c.loop-i.i (pos 0)) = c.abs-a.ensures ∙ ap nat_abs (rd-at c.requires tt c.loop-i.i) in
     let after : c.if-a-ne0.g ≡ gcd_of c.loop-i.g (nat_abs (get_or s c.loop-i.i (pos 0))) =
-      elim c.if-a-ne0.branch [
-        then-a-ne0+else-g-eq1 w ↦ w.g-is ∙ w.gcd-g.ensures ∙ gcd-comm _ c.loop-i.g ∙ ap (gcd_of c.loop-i.g) seen
-        | else-a-ne0 w ↦ w.g-is ∙ sym (gcd-zero _) ∙ ap (gcd_of _) (sym w.if-a-ne0.false ∙ seen)
-      ] in
+    elim c.if-a-ne0.branch [
+      | then-a-ne0+else-g-eq1 w ↦ w.g-is ∙ w.gcd-g.ensures ∙ gcd-comm _ c.loop-i.g ∙ ap (gcd_of c.loop-i.g) seen
+      | else-a-ne0 w ↦ w.g-is ∙ sym (gcd-zero _) ∙ ap (gcd_of _) (sym w.if-a-ne0.false ∙ seen)
+    ] in
     (omega (arith, h), ap (λ (n : ℕ). gcd_from n (drop (c.loop-i.i + 1) s)) after ∙ gcd-turn s c.loop-i.i c.loop-i.g h ∙ c.loop-i.invariant.1)
 
 pub returns : goal.returns

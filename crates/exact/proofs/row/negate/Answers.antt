@@ -1,6 +1,6 @@
 -- `negate` meets its contract: after i turns, the signs of the first i numbers are turned (`Mapped`). Assumes nothing.
 use mathlib.Core.Path.{◌≡◌, refl, sym, ◌∙◌, ap, subst}
-use Prim.Native.Nat.{ℕ, ◌≤◌, ◌<◌, ◌-◌}
+use Prim.Native.Nat.{ℕ, ◌≤◌, ◌<◌}
 use lib.ListN.{get_or}
 use lib.IntN.{pos, neg_ℤ}
 use Rattle.exact.specs.Numbers.{Within, minus}

@@ -1,6 +1,6 @@
 -- `same_row` meets its contract: after i turns, the test of the two rows from i on is the test of both rows. Assumes nothing.
 use mathlib.Core.Path.{ap, sym, ◌≡◌, refl, ◌∙◌, subst}
-use Prim.Native.Nat.{◌<◌, ℕ, ◌≤◌, ◌-◌, zero-le}
+use Prim.Native.Nat.{◌<◌, ℕ, ◌≤◌, zero-le}
 use mir.Syntax.{w64}
 use mir.Val.{to_z, of_z}
 use native.Mathlib.Omega.{arith}

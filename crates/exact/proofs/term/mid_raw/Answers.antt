@@ -1,6 +1,6 @@
 -- `mid_raw` meets its contract: after i turns, the first i of ten numbers are those of the midpoint (`Filled`). Assumes nothing.
 use mathlib.Core.Path.{◌≡◌, refl, ◌∙◌, ap₂, subst}
-use Prim.Native.Nat.{◌-◌, zero-le}
+use Prim.Native.Nat.{zero-le}
 use native.Mathlib.Omega.{arith}
 use lib.IntN.{ℤ, pos, ◌+ℤ◌, ◌*ℤ◌}
 use Rattle.exact.specs.Terms.{mid_at}

@@ -2,7 +2,7 @@
 use mathlib.Core.Path.{◌≡◌, refl, sym, ◌∙◌, ap, ap₂, subst}
 use lib.IntN.{ℤ, pos}
 use mathlib.Core.Bool.{not}
-use Prim.Native.Nat.{◌-◌, zero-le}
+use Prim.Native.Nat.{zero-le}
 use native.Mathlib.Omega.{arith}
 use lib.Signed.{lt_z}
 use Rattle.reading.specs.Limits.{M}

@@ -9,7 +9,7 @@ use Rattle.reading.proofs.Reading.{shift}
 use Rattle.reading.proofs.formulas.+formula_at.Given as goal
 
 abbrev pub invariant-loop-i : goal.invariant-loop-i
-invariant-loop-i l =     (l.i ≤ l.follow) × (l.at ≤ length l.s)
+invariant-loop-i l = (l.i ≤ l.follow) × (l.at ≤ length l.s)
     × (reply_of (formula_in l.levels l.s) ≡ shift l.at (reply_of (formulas_in (formula_in (l.levels - 1)) (l.follow - l.i) (drop l.at l.s))))
 
 abbrev pub decreases-loop-i : goal.decreases-loop-i

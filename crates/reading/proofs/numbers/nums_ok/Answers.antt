@@ -2,7 +2,7 @@
 use mathlib.Core.Path.{sym}
 use native.Mathlib.Omega.{arith}
 use native.Mathlib.Nat.{sub-zero}
-use Prim.Native.Nat.{◌-◌, zero-le}
+use Prim.Native.Nat.{zero-le}
 use Rattle.reading.specs.Records.{all_m}
 use Rattle.reading.proofs.Signed.{in_m-read, all_m-more, all_m-not, all_m-none}
 use Rattle.reading.proofs.numbers.nums_ok.Goals as goal

@@ -1,7 +1,7 @@
 -- `first_quantifier`: as long as nothing is found, the first quantifier of the whole formula is the first of what is left; the one that is
 -- met stays the first.
 use mathlib.Core.Path.{◌≡◌, sym, ◌∙◌, ap}
-use Prim.Native.Nat.{◌+◌, ◌-◌}
+use Prim.Native.Nat.{◌+◌}
 use native.Mathlib.Omega.{arith}
 use mathlib.Core.Bool.{false}
 use Rattle.reading.specs.Bytes.{le2}

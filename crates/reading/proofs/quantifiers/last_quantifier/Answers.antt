@@ -1,5 +1,4 @@
 -- `last_quantifier`: before each turn the last quantifier of the whole formula is the last of what is left after what is found so far.
-use Prim.Native.Nat.{◌-◌}
 use native.Mathlib.Omega.{arith}
 use mathlib.Core.Bool.{true}
 use Rattle.reading.specs.Reading.{tree_of}

@@ -1,5 +1,5 @@
 -- `past`: whichever formulas stand there, what is left of them at p ends where they do.
-use Prim.Native.Nat.{◌+◌, ◌-◌}
+use Prim.Native.Nat.{◌+◌}
 use native.Mathlib.Omega.{arith}
 use lib.ListN.{length}
 use Rattle.reading.specs.Formula.{encodes}

@@ -1,6 +1,6 @@
 -- `copied` and `copied_list`, which call each other on parts of the source: a part is shorter, and a list counts below the formula that it is. The loop
 -- over the members keeps a `Turn`; each need is a law of it.
-use Prim.Native.Nat.{◌+◌, ◌-◌}
+use Prim.Native.Nat.{◌+◌}
 use lib.ListN.{length}
 use Rattle.replacement.proofs.copying.Turn.{Goes}
 use Rattle.replacement.proofs.copying.+copied_copied_list.Given as goal

@@ -1,8 +1,7 @@
 -- The terms of a formula: the walk of `Walking`, with the table as it is so far. The bytes that are left fall at each call.
-use Prim.Native.Nat.{◌+◌, ◌-◌}
+use Prim.Native.Nat.{◌+◌}
 use lib.ListN.{length}
 use Rattle.replacement.specs.Gathering.{rows_of}
-use Rattle.exact.specs.Numbers.{at}
 use Rattle.replacement.proofs.gathering.TermLaws.{GatherLoop}
 use Rattle.replacement.proofs.gathering.+gather_gather_list.Given as goal
 

@@ -1,8 +1,7 @@
 -- `body_of`: what the survey sees of the body; where it is tame, no number of the step is too big. From four terms on the atoms are marked.
 use mathlib.Core.Path.{◌≡◌, refl, sym, ◌∙◌, ap, subst}
-use mathlib.Core.Bool.{true, true≢false}
+use mathlib.Core.Bool.{true}
 use mathlib.Core.List.{List}
-use mathlib.Core.Logic.{⊎_elim}
 use Prim.Native.Nat.{ℕ}
 use native.Mathlib.Omega.{arith}
 use lib.Dec.{leb}
@@ -21,7 +20,7 @@ table : (c : Joined-marked) → let a = c.args in (length c.if-marked.marks ≡ 
 table c =
     let a = c.args in
     elim c.if-marked.branch [
-      then-marked w ↦ (
+      | then-marked w ↦ (
         ap length w.marks-is ∙ omega arith,
         λ _. subst (λ (ms : List ℕ). Marked a.x ms (length a.s.now) (tree_of a.s.now)) (sym w.marks-is) w.mark.ensures,
       )

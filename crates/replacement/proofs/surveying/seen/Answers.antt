@@ -46,8 +46,7 @@ of_window-requires c = let e = sym c.window_at.ensures in
 
 pub returns-in-Atom : goal.returns-in-Atom
 returns-in-Atom c =
-    let an-atom : IsAtom (tree_of c.args.s.now) = shape-atom (tree_of c.args.s.now) (sym c.shape_at-shape.ensures ∙ c.in-Atom.is) in
-    (
+    let an-atom : IsAtom (tree_of c.args.s.now) = shape-atom (tree_of c.args.s.now) (sym c.shape_at-shape.ensures ∙ c.in-Atom.is) in (
       c.of_atom.ensures.0,
       leaf-atom c.args.x c.of_atom.result (tree_of c.args.s.now) an-atom
           (subst (λ (ns : List ℤ). (k : Comparison) → Sees c.args.x c.of_atom.result (atom k ns)) c.row_at.ensures c.of_atom.ensures.1),
@@ -55,10 +54,10 @@ returns-in-Atom c =
 
 pub returns-in-Window : goal.returns-in-Window
 returns-in-Window c = (
-      c.of_window.ensures.0,
-      leaf-window c.args.x c.of_window.result (tree_of c.args.s.now) (a-window (goal.at.returns-in-Window c).In-Window)
-          (subst (λ (w : Window). Sees c.args.x c.of_window.result (window w.variable w.lo w.hi)) c.window_at.ensures c.of_window.ensures.1),
-    )
+  c.of_window.ensures.0,
+  leaf-window c.args.x c.of_window.result (tree_of c.args.s.now) (a-window (goal.at.returns-in-Window c).In-Window)
+      (subst (λ (w : Window). Sees c.args.x c.of_window.result (window w.variable w.lo w.hi)) c.window_at.ensures c.of_window.ensures.1),
+)
 
 pub returns-in-Not : goal.returns-in-Not
 returns-in-Not c = other (goal.at.returns-in-Not c).After-shape_at-shape c.in-Not.is refl

@@ -1,5 +1,4 @@
 -- `survey`: at each record what is left of the formula is still to be seen.
-use Prim.Native.Nat.{◌-◌}
 use native.Mathlib.Omega.{arith}
 use Rattle.reading.specs.Reading.{tree_of}
 use Rattle.reading.proofs.Passing.{part_from}

@@ -33,7 +33,7 @@ within_all-requires c = let t = c.requires.table in
 
 pub with_copy-requires : goal.with_copy-requires
 with_copy-requires c =
-    let sure : let a = c.args in a.body.way.calm ≡ true → fits (here a.body.x c.midpoint-m.result) (push false (tree_of a.s.now)) ≡ true = λ k.     let a = c.args in
+    let sure : let a = c.args in a.body.way.calm ≡ true → fits (here a.body.x c.midpoint-m.result) (push false (tree_of a.s.now)) ≡ true = λ k. let a = c.args in
     let p = push false (tree_of a.s.now) in
     subst (λ (y : List ℤ). fits (here a.body.x y) p ≡ true) (sym (is (goal.at.with_copy-requires c).After-midpoint-m)) (one-sure a.body (here a.body.x (midpoint (row_at a.ts.now a.i) (row_at a.ts.now a.j))) p c.requires.sure k) in
     let b = c.requires.copiable in record { copiable = b; ready = (record { low = b.low; nums = all-each M c.midpoint-m.result (sym c.within_all.ensures ∙ c.if-within_all.true) }, refl); s_value = sure; end_bound = holding-bounds c.requires.holding }

@@ -10,7 +10,7 @@ use Rattle.replacement.proofs.trying.PointLaws.{Way}
 use Rattle.replacement.proofs.trying.row_of.Given as goal
 
 abbrev pub invariant-loop-j : goal.invariant-loop-j
-invariant-loop-j l =     Way l.body l.initial.d l.d (midpoints l.body.x (row_at l.ts l.i) (drop l.i (rows_of l.n l.ts))) (midpoints l.body.x (row_at l.ts l.i) (drop l.j (rows_of l.n l.ts))) (push false (tree_of l.s)) l.initial.out l.out
+invariant-loop-j l = Way l.body l.initial.d l.d (midpoints l.body.x (row_at l.ts l.i) (drop l.i (rows_of l.n l.ts))) (midpoints l.body.x (row_at l.ts l.i) (drop l.j (rows_of l.n l.ts))) (push false (tree_of l.s)) l.initial.out l.out
 
 abbrev pub decreases-loop-j : goal.decreases-loop-j
 decreases-loop-j l = l.n - l.j
