@@ -1,12 +1,15 @@
-// What the gate's programs share: the next case of standard input, numbers on a line, and the checksum of bytes.
+// What the gate's programs share: the next case of a stream, numbers on a line, and the checksum of bytes.
 #![tactic(auto)]
 
 ghost use Rattle.std.specs.Prelude.{◌+◌, ◌<◌, ◌≤◌, length};
 
+use std::io;
+use std::io::Read;
+
 // A number, and what follows it.
-pub fn show(n: usize, after: &[u8]) {
-    io::print_decimal(1, n as u64);
-    io::write_all(1, after);
+pub fn show(rt: &impl Print, n: usize, after: &[u8]) -> io::Result<()> {
+    print!(rt; "{n}")?;
+    rt.write_all(after)
 }
 
 // The number in the four bytes of s from i on.
@@ -20,23 +23,23 @@ pub fn number_at(s: &[u8], i: usize) -> u64
 }
 
 // The length of the next case, which stands before it in four bytes; past every buffer where the input has ended.
-fn next_length() -> usize {
+fn next_length<R: Read>(reader: &mut R) -> io::Result<usize> {
     let mut head = [0u8; 4];
-    let got = io::read_full(0, &mut head);
+    let got = streams::read_full(reader, &mut head)?;
     if got < 4 {
-        return 4294967295;
+        return Ok(4294967295);
     }
-    number_at(&head, 0) as usize
+    Ok(number_at(&head, 0) as usize)
 }
 
 // The next case's bytes, at the start of the buffer; their number, or one past the buffer where there is none.
-pub fn fetch(buffer: &mut [u8]) -> usize {
-    let n = next_length();
+pub fn fetch<R: Read>(reader: &mut R, buffer: &mut [u8]) -> io::Result<usize> {
+    let n = next_length(reader)?;
     if buffer.len() < n {
-        return n;
+        return Ok(n);
     }
-    io::read_full(0, &mut buffer[..n]);
-    n
+    streams::read_full(reader, &mut buffer[..n])?;
+    Ok(n)
 }
 
 // One byte more of the checksum: the multiplication by 2^40 + 435 wraps.
@@ -44,16 +47,14 @@ fn checked(h: u64, b: u8) -> u64 {
     let x = h ^ (b as u64);
     let low = (x % 4294967296) * 435;
     let high = (x / 4294967296 % 4294967296) * 435;
-    std::num::wrapping_add_u64(x << 40, std::num::wrapping_add_u64(low, high << 32))
+    (x << 40).wrapping_add(low.wrapping_add(high << 32))
 }
 
 // The checksum of the bytes (FNV-1a, 64 bits).
 pub fn checksum(s: &[u8]) -> u64 {
     let mut h: u64 = 14695981039346656037;
-    let mut i = 0;
-    while i < s.len() {
-        h = checked(h, s[i]);
-        i += 1;
+    for b in s {
+        h = checked(h, *b);
     }
     h
 }

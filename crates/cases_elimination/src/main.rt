@@ -2,69 +2,66 @@
 // and the result in hex where it has at most 600 bytes, else the word fnv and the checksum of its bytes (FNV-1a, 64 bits).
 #![tactic(auto)]
 
-// A byte in two digits.
-fn digits(b: u8) {
-    io::print_hex(1, b as u64, 2);
-}
+use std::io;
 
-fn hex(s: &[u8]) {
-    let mut i = 0;
-    while i < s.len() {
-        digits(s[i]);
-        i += 1;
+fn hex(rt: &impl Print, s: &[u8]) -> io::Result<()> {
+    for b in s {
+        print!(rt; "{:02x}", *b)?;
     }
+    Ok(())
 }
 
 // The result's bytes, or their checksum.
-fn bytes(s: &[u8]) {
+fn bytes(rt: &impl Print, s: &[u8]) -> io::Result<()> {
     if s.len() == 0 {
-        return;
+        return Ok(());
     }
     if s.len() <= 600 {
-        io::write_all(1, b" ");
-        hex(s);
-        return;
+        print!(rt; " ")?;
+        return hex(rt, s);
     }
-    io::write_all(1, b" fnv ");
-    io::print_decimal(1, cases::checksum(s));
+    print!(rt; " fnv {}", cases::checksum(s))
 }
 
-fn part(s: &[u8], n: usize) {
+fn part(rt: &impl Print, s: &[u8], n: usize) -> io::Result<()> {
     if n <= s.len() {
-        bytes(&s[..n]);
+        return bytes(rt, &s[..n]);
     }
+    Ok(())
 }
 
-fn line(sheet: &[u8], res: &mut [u8], work: &mut [u8]) {
+fn line(rt: &impl Print, sheet: &[u8], res: &mut [u8], work: &mut [u8]) -> io::Result<()> {
     let r = elimination::eliminate(sheet, res, work);
-    cases::show(r.number, b" ");
-    cases::show(r.verdict, b" ");
-    cases::show(r.place, b" ");
-    cases::show(r.length, b"");
-    part(res, r.length);
-    io::write_all(1, b"\n");
+    print!(rt; "{} {} {} {}", r.number, r.verdict, r.place, r.length)?;
+    part(rt, res, r.length)?;
+    println!(rt)
 }
 
 // A line for the first n bytes; false where there are not so many.
-fn shown(buffer: &[u8], n: usize, res: &mut [u8], work: &mut [u8]) -> bool {
+fn shown(
+    rt: &impl Print,
+    buffer: &[u8],
+    n: usize,
+    res: &mut [u8],
+    work: &mut [u8],
+) -> io::Result<bool> {
     if buffer.len() < n {
-        return false;
+        return Ok(false);
     }
-    line(&buffer[..n], res, work);
-    true
+    line(rt, &buffer[..n], res, work)?;
+    Ok(true)
 }
 
-fn main() {
+fn main(rt: HostRuntime) -> io::Result<()> {
     let mut buffer = [0u8; 65600];
     let mut result = [0u8; 65536];
     let mut work = [0u8; 65536];
-    let mut left: u64 = 20000;
-    while left > 0 {
-        let n = cases::fetch(&mut buffer);
-        if shown(&buffer, n, &mut result, &mut work) {
-            left -= 1;
-        } else {
-            return;
+    let mut reader = rt.reader();
+    for _ in 0..20000 {
+        let n = cases::fetch(&mut reader, &mut buffer)?;
+        if !shown(&rt, &buffer, n, &mut result, &mut work)? {
+            break;
         }
     }
+    Ok(())
 }

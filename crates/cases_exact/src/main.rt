@@ -5,12 +5,13 @@
 // or `large` where a number of it lies outside -M..M). `-` stands for a case that `exact` does not take.
 #![tactic(auto)]
 
-ghost use Rattle.std.specs.Prelude.{◌<◌, ◌≤◌, length};
+ghost use Rattle.std.specs.Prelude.{◌<◌, ◌≤◌, length, IfOk};
 ghost use Rattle.reading.specs.Limits.{M};
 ghost use Rattle.exact.specs.Numbers.{Within, Each};
 ghost use Rattle.exact.specs.Atoms.{Ready};
 
 use exact::{Outcome, Point, PointKind, Put, abs, within_all};
+use std::io;
 
 // Digits that were read, and where the next byte stands.
 #[derive(Clone, Copy)]
@@ -118,77 +119,60 @@ fn fill(s: &[u8], from: usize, out: &mut [i64]) -> usize
     at
 }
 
-fn show(z: i64)
-    requires { Within 9223372036854775807 z }
-{
-    if z < 0 {
-        io::write_all(1, b" -");
-        io::print_decimal(1, abs(z));
-    } else {
-        io::write_all(1, b" ");
-        io::print_decimal(1, abs(z));
-    }
+fn show(rt: &impl Print, z: i64) -> io::Result<()> {
+    print!(rt; " {z}")
 }
 
-fn show_row(s: &[i64])
-    requires { Each 9223372036854775807 s.now }
-{
-    let mut i = 0;
-    while i < s.len() {
-        let z = s[i];
-        show(z);
-        i += 1;
+fn show_row(rt: &impl Print, s: &[i64]) -> io::Result<()> {
+    for z in s {
+        show(rt, *z)?;
     }
+    Ok(())
 }
 
-fn show_truth(b: bool) {
-    if b {
-        io::write_all(1, b" yes");
-    } else {
-        io::write_all(1, b" no");
-    }
+fn show_truth(rt: &impl Print, b: bool) -> io::Result<()> {
+    print!(rt; "{}", if b { " yes" } else { " no" })
 }
 
-fn case_gcd(s: &[u8], from: usize) -> usize
+fn case_gcd(rt: &impl Print, s: &[u8], from: usize) -> io::Result<usize>
     requires { from ≤ length s.now }
-    ensures { (from ≤ result) × (result ≤ length s.now) }
+    ensures { IfOk result (λ at. (from ≤ at) × (at ≤ length s.now)) }
 {
     let a = integer(s, from);
     let b = integer(s, a.at);
     let x = a.value;
     let y = b.value;
-    io::write_all(1, b" ");
-    io::print_decimal(1, exact::gcd(abs(x), abs(y)));
-    b.at
+    print!(rt; " {}", exact::gcd(abs(x), abs(y)))?;
+    Ok(b.at)
 }
 
-fn case_row(s: &[u8], from: usize) -> usize
+fn case_row(rt: &impl Print, s: &[u8], from: usize) -> io::Result<usize>
     requires { from ≤ length s.now }
-    ensures { (from ≤ result) × (result ≤ length s.now) }
+    ensures { IfOk result (λ at. (from ≤ at) × (at ≤ length s.now)) }
 {
     let mut w = [0i64; 9];
     let at = fill(s, from, &mut w);
-    show_truth(within_all(&w));
+    show_truth(rt, within_all(&w))?;
     exact::reduce(&mut w);
-    show_row(&w);
-    at
+    show_row(rt, &w)?;
+    Ok(at)
 }
 
-fn case_same(s: &[u8], from: usize) -> usize
+fn case_same(rt: &impl Print, s: &[u8], from: usize) -> io::Result<usize>
     requires { from ≤ length s.now }
-    ensures { (from ≤ result) × (result ≤ length s.now) }
+    ensures { IfOk result (λ at. (from ≤ at) × (at ≤ length s.now)) }
 {
     let mut a = [0i64; 9];
     let mut b = [0i64; 9];
     let p = fill(s, from, &mut a);
     let at = fill(s, p, &mut b);
-    show_truth(exact::same_row(&a, &b));
-    at
+    show_truth(rt, exact::same_row(&a, &b))?;
+    Ok(at)
 }
 
-fn case_term(s: &[u8], from: usize) -> usize
+fn case_term(rt: &impl Print, s: &[u8], from: usize) -> io::Result<usize>
     requires { from ≤ length s.now }
-    ensures { (from ≤ result) × (result ≤ length s.now) }
+    ensures { IfOk result (λ at. (from ≤ at) × (at ≤ length s.now)) }
 {
     let mut ns = [0i64; 9];
     let k = integer(s, from);
@@ -201,18 +185,18 @@ fn case_term(s: &[u8], from: usize) -> usize
             let a = ns[x];
             if a != 0 {
                 let t = exact::term_of(ns, x);
-                show_row(&t);
-                return at;
+                show_row(rt, &t)?;
+                return Ok(at);
             }
         }
     }
-    io::write_all(1, b" -");
-    at
+    print!(rt; " -")?;
+    Ok(at)
 }
 
-fn case_mid(s: &[u8], from: usize) -> usize
+fn case_mid(rt: &impl Print, s: &[u8], from: usize) -> io::Result<usize>
     requires { from ≤ length s.now }
-    ensures { (from ≤ result) × (result ≤ length s.now) }
+    ensures { IfOk result (λ at. (from ≤ at) × (at ≤ length s.now)) }
 {
     let mut t = [0i64; 10];
     let mut u = [0i64; 10];
@@ -221,13 +205,13 @@ fn case_mid(s: &[u8], from: usize) -> usize
     if within_all(&t) {
         if within_all(&u) {
             let m = exact::midpoint(&t, &u);
-            show_row(&m);
-            show_truth(within_all(&m));
-            return at;
+            show_row(rt, &m)?;
+            show_truth(rt, within_all(&m))?;
+            return Ok(at);
         }
     }
-    io::write_all(1, b" -");
-    at
+    print!(rt; " -")?;
+    Ok(at)
 }
 
 fn point_kind(k: u64) -> PointKind {
@@ -239,38 +223,35 @@ fn point_kind(k: u64) -> PointKind {
     }
 }
 
-fn show_put(r: Put)
-    requires { Each 9223372036854775807 r.nums }
-{
-    let o = r.outcome;
-    match o {
-        Outcome::True => {
-            io::write_all(1, b" true");
-        }
-        Outcome::False => {
-            io::write_all(1, b" false");
-        }
-        Outcome::New => {
-            let ns = r.nums;
-            show_row(&ns);
-        }
+fn show_put(rt: &impl Print, r: Put) -> io::Result<()> {
+    match r.outcome {
+        Outcome::True => print!(rt; " true"),
+        Outcome::False => print!(rt; " false"),
+        Outcome::New => show_row(rt, &r.nums),
     }
 }
 
 // The atom at the point, or that a number of it lies outside -M..M.
-fn show_atom(kind: u8, ns: [i64; 9], q: Point)
+fn show_atom(rt: &impl Print, kind: u8, ns: [i64; 9], q: Point) -> io::Result<()>
     requires each { Each M ns }
     requires ready { Ready q }
 {
     let r = exact::atom_at(kind, ns, q);
     if r.fits {
-        show_put(r);
+        show_put(rt, r)
     } else {
-        io::write_all(1, b" large");
+        print!(rt; " large")
     }
 }
 
-fn atom_case(kind: u64, place: u64, x: u64, ns: [i64; 9], n: [i64; 10])
+fn atom_case(
+    rt: &impl Print,
+    kind: u64,
+    place: u64,
+    x: u64,
+    ns: [i64; 9],
+    n: [i64; 10],
+) -> io::Result<()>
     requires each { Each 9223372036854775807 ns }
     requires each_2 { Each 9223372036854775807 n }
 {
@@ -278,7 +259,8 @@ fn atom_case(kind: u64, place: u64, x: u64, ns: [i64; 9], n: [i64; 10])
         if within_all(&n) {
             if x < 8 {
                 if kind < 4 {
-                    show_atom(
+                    return show_atom(
+                        rt,
                         kind as u8,
                         ns,
                         Point {
@@ -287,17 +269,16 @@ fn atom_case(kind: u64, place: u64, x: u64, ns: [i64; 9], n: [i64; 10])
                             n: n,
                         },
                     );
-                    return;
                 }
             }
         }
     }
-    io::write_all(1, b" -");
+    print!(rt; " -")
 }
 
-fn case_atom(s: &[u8], from: usize) -> usize
+fn case_atom(rt: &impl Print, s: &[u8], from: usize) -> io::Result<usize>
     requires { from ≤ length s.now }
-    ensures { (from ≤ result) × (result ≤ length s.now) }
+    ensures { IfOk result (λ at. (from ≤ at) × (at ≤ length s.now)) }
 {
     let a = integer(s, from);
     let b = integer(s, a.at);
@@ -309,37 +290,38 @@ fn case_atom(s: &[u8], from: usize) -> usize
     let x = a.value;
     let y = b.value;
     let z = c.value;
-    atom_case(abs(x), abs(y), abs(z), ns, n);
-    at
+    atom_case(rt, abs(x), abs(y), abs(z), ns, n)?;
+    Ok(at)
 }
 
-fn one_case(s: &[u8], from: usize) -> usize
+fn one_case(rt: &impl Print, s: &[u8], from: usize) -> io::Result<usize>
     requires { from < length s.now }
-    ensures { (from < result) × (result ≤ length s.now) }
+    ensures { IfOk result (λ at. (from < at) × (at ≤ length s.now)) }
 {
     let letter = s[from];
     match letter {
-        71 => case_gcd(s, from + 1),
-        82 => case_row(s, from + 1),
-        83 => case_same(s, from + 1),
-        84 => case_term(s, from + 1),
-        77 => case_mid(s, from + 1),
-        65 => case_atom(s, from + 1),
-        _ => from + 1,
+        71 => case_gcd(rt, s, from + 1),
+        82 => case_row(rt, s, from + 1),
+        83 => case_same(rt, s, from + 1),
+        84 => case_term(rt, s, from + 1),
+        77 => case_mid(rt, s, from + 1),
+        65 => case_atom(rt, s, from + 1),
+        _ => Ok(from + 1),
     }
 }
 
-fn all_cases(s: &[u8]) {
+fn all_cases(rt: &impl Print, s: &[u8]) -> io::Result<()> {
     let mut at = skip(s, 0);
     while at < s.len() {
-        let p = one_case(s, at);
-        io::write_all(1, b"\n");
+        let p = one_case(rt, s, at)?;
+        println!(rt)?;
         at = skip(s, p);
     }
+    Ok(())
 }
 
-fn main() {
-    let mut buffer = io::large_buffer();
-    let n = io::read_full(0, &mut buffer);
-    all_cases(&buffer[..n]);
+fn main(rt: HostRuntime) -> io::Result<()> {
+    let mut buffer = [0u8; 65536];
+    let n = streams::read_full(&mut rt.reader(), &mut buffer)?;
+    all_cases(&rt, &buffer[..n])
 }

@@ -3,48 +3,46 @@
 // where it is not empty, the checksum of its bytes (FNV-1a, 64 bits).
 #![tactic(auto)]
 
+use std::io;
+
 // The part that the look gives back.
-fn body(s: &[u8]) {
-    cases::show(s.len(), b"");
+fn body(rt: &impl Print, s: &[u8]) -> io::Result<()> {
+    cases::show(rt, s.len(), b"")?;
     if s.len() == 0 {
-        return;
+        return Ok(());
     }
-    io::write_all(1, b" ");
-    io::print_decimal(1, cases::checksum(s));
+    print!(rt; " {}", cases::checksum(s))
 }
 
-fn line(s: &[u8]) {
+fn line(rt: &impl Print, s: &[u8]) -> io::Result<()> {
     let sheet = reading::read(s, reading::Limit::Sheet);
-    cases::show(sheet.number, b" ");
-    cases::show(sheet.place, b" ");
     let result = reading::read(s, reading::Limit::Result);
-    cases::show(result.number, b" ");
-    cases::show(result.place, b" ");
     let part = reading::look_part(s);
-    cases::show(part.at, b" ");
-    cases::show(part.length, b" ");
-    body(reading::look(s));
-    io::write_all(1, b"\n");
+    print!(rt;
+        "{} {} {} {} {} {} ",
+        sheet.number, sheet.place, result.number, result.place, part.at, part.length
+    )?;
+    body(rt, reading::look(s))?;
+    println!(rt)
 }
 
 // A line for the first n bytes; false where there are not so many.
-fn shown(buffer: &[u8], n: usize) -> bool {
+fn shown(rt: &impl Print, buffer: &[u8], n: usize) -> io::Result<bool> {
     if buffer.len() < n {
-        return false;
+        return Ok(false);
     }
-    line(&buffer[..n]);
-    true
+    line(rt, &buffer[..n])?;
+    Ok(true)
 }
 
-fn main() {
+fn main(rt: HostRuntime) -> io::Result<()> {
     let mut buffer = [0u8; 65600];
-    let mut left: u64 = 20000;
-    while left > 0 {
-        let n = cases::fetch(&mut buffer);
-        if shown(&buffer, n) {
-            left -= 1;
-        } else {
-            return;
+    let mut reader = rt.reader();
+    for _ in 0..20000 {
+        let n = cases::fetch(&mut reader, &mut buffer)?;
+        if !shown(&rt, &buffer, n)? {
+            break;
         }
     }
+    Ok(())
 }

@@ -2,6 +2,9 @@
 // verdict and place of the test at those eight values over the ninth.
 #![tactic(auto)]
 
+use std::io;
+use std::io::Read;
+
 // The signed number in eight bytes.
 fn value(s: &[u8; 8]) -> i64 {
     let low = cases::number_at(s, 0);
@@ -13,44 +16,39 @@ fn value(s: &[u8; 8]) -> i64 {
     !((18446744073709551615 - v) as i64)
 }
 
-// The next number of standard input.
-fn next_value() -> i64 {
+// The next number of the stream.
+fn next_value<R: Read>(reader: &mut R) -> io::Result<i64> {
     let mut s = [0u8; 8];
-    io::read_full(0, &mut s);
-    value(&s)
+    streams::read_full(reader, &mut s)?;
+    Ok(value(&s))
 }
 
-fn next_values() -> [i64; 9] {
+fn next_values<R: Read>(reader: &mut R) -> io::Result<[i64; 9]> {
     let mut w = [0i64; 9];
-    let mut i: usize = 0;
-    while i < 9 {
-        w[i] = next_value();
-        i += 1;
+    for v in w.iter_mut() {
+        *v = next_value(reader)?;
     }
-    w
+    Ok(w)
 }
 
 // A line for the first n bytes; false where there are not so many.
-fn shown(buffer: &[u8], n: usize) -> bool {
+fn shown<R: Read>(rt: &impl Print, reader: &mut R, buffer: &[u8], n: usize) -> io::Result<bool> {
     if buffer.len() < n {
-        return false;
+        return Ok(false);
     }
-    let r = testing::test(&buffer[..n], next_values());
-    cases::show(r.number, b" ");
-    cases::show(r.verdict, b" ");
-    cases::show(r.place, b"\n");
-    true
+    let r = testing::test(&buffer[..n], next_values(reader)?);
+    println!(rt; "{} {} {}", r.number, r.verdict, r.place)?;
+    Ok(true)
 }
 
-fn main() {
+fn main(rt: HostRuntime) -> io::Result<()> {
     let mut buffer = [0u8; 65600];
-    let mut left: u64 = 20000;
-    while left > 0 {
-        let n = cases::fetch(&mut buffer);
-        if shown(&buffer, n) {
-            left -= 1;
-        } else {
-            return;
+    let mut reader = rt.reader();
+    for _ in 0..20000 {
+        let n = cases::fetch(&mut reader, &mut buffer)?;
+        if !shown(&rt, &mut reader, &buffer, n)? {
+            break;
         }
     }
+    Ok(())
 }

@@ -3,12 +3,11 @@
 // verdicts 0, 1 and 2, and the sum of result lengths. Where standard error is a terminal, it shows how many boxes are done.
 #![tactic(auto)]
 
-ghost use Rattle.std.specs.Prelude.{◌≡◌, false, ◌+◌, ◌≤◌, ◌<◌, length};
+ghost use Rattle.std.specs.Prelude.{◌≡◌, false, ◌≤◌, ◌<◌, length};
 
 use boxes::{BOX_BYTES, Boxed, Line, Totals};
-
-// Room for a line: six numbers of at most 20 digits, each with a byte after it.
-const TEXT: usize = 160;
+use std::io;
+use std::io::{IsTerminal, Read};
 
 // How far the list has come: its boxes, the bytes that they take, and the totals.
 #[derive(Clone, Copy)]
@@ -25,87 +24,56 @@ struct Turned {
     state: State,
 }
 
-// A number and a byte after it, at `at`; where the next goes.
-fn put(text: &mut [u8], at: usize, n: u64, after: u8) -> usize
-    requires { at + 21 ≤ length text.old }
-    ensures { result ≤ at + 21 }
-{
-    let mut digits = [0u8; 20];
-    let k = io::decimal(n, &mut digits);
-    if 20 < k {
-        return at;
-    }
-    writing::paste(text, at, &digits[..k], 0, k);
-    let end = at + k;
-    text[end] = after;
-    end + 1
-}
-
 // The line of a box.
-fn tell(number: u64, l: Line) -> bool {
-    let mut text = [0u8; TEXT];
-    let a = put(&mut text, 0, number, 32);
-    let b = put(&mut text, a, l.answer as u64, 32);
-    let c = put(&mut text, b, l.verdict as u64, 32);
-    let d = put(&mut text, c, l.steps as u64, 32);
-    let e = put(&mut text, d, l.terms as u64, 32);
-    let f = put(&mut text, e, l.length as u64, 10);
-    io::write_all(1, &text[..f])
+fn tell(rt: &impl Print, number: u64, l: Line) -> io::Result<()> {
+    println!(rt;
+        "{number} {} {} {} {} {}",
+        l.answer, l.verdict, l.steps, l.terms, l.length
+    )
 }
 
 // The line of a bad box.
-fn tell_bad(at: u64) -> bool {
-    let mut text = [0u8; TEXT];
-    let a = put(&mut text, 0, 15, 32);
-    let b = put(&mut text, a, at, 10);
-    io::write_all(1, &text[..b])
+fn tell_bad(rt: &impl Print, at: u64) -> io::Result<()> {
+    println!(rt; "15 {at}")
 }
 
 // The last line.
-fn tell_totals(t: Totals) -> bool {
-    let mut text = [0u8; TEXT];
-    let a = put(&mut text, 0, t.done, 32);
-    let b = put(&mut text, a, t.no, 32);
-    let c = put(&mut text, b, t.yes, 32);
-    let d = put(&mut text, c, t.free, 32);
-    let e = put(&mut text, d, t.sum, 10);
-    io::write_all(1, &text[..e])
+fn tell_totals(rt: &impl Print, t: Totals) -> io::Result<()> {
+    println!(rt; "{} {} {} {} {}", t.done, t.no, t.yes, t.free, t.sum)
 }
 
 // How many boxes are done, on a terminal, now and then.
-fn show(terminal: bool, done: u64) {
-    if terminal {
-        if done % 64 == 0 {
-            io::write_all(2, b"\r");
-            io::print_decimal(2, done);
-            io::write_all(2, b" boxes");
-        }
+fn show(terminal: &impl Print, is: bool, done: u64) -> io::Result<()> {
+    if is && done % 64 == 0 {
+        return print!(terminal; "\r{done} boxes");
     }
+    Ok(())
 }
 
 // The line on the terminal is left.
-fn leave(terminal: bool) {
-    if terminal {
-        io::write_all(2, b"\n");
+fn leave(terminal: &impl Print, is: bool) -> io::Result<()> {
+    if is {
+        return println!(terminal);
     }
+    Ok(())
 }
 
 // The bytes of the next box, at the start of the buffer; how many there are.
-fn fetch(buffer: &mut [u8]) -> usize
+fn fetch<R: Read>(reader: &mut R, buffer: &mut [u8]) -> io::Result<usize>
     requires { 4 ≤ length buffer.old }
 {
-    let got = io::read_full(0, &mut buffer[..BOX_BYTES]);
+    let got = streams::read_full(reader, &mut buffer[..BOX_BYTES])?;
     if got < BOX_BYTES {
-        return got;
+        return Ok(got);
     }
     let n = reading::u16_at(buffer, 0) as usize;
     if n < BOX_BYTES {
-        return BOX_BYTES;
+        return Ok(BOX_BYTES);
     }
     if buffer.len() < n {
-        return BOX_BYTES;
+        return Ok(BOX_BYTES);
     }
-    BOX_BYTES + io::read_full(0, &mut buffer[BOX_BYTES..n])
+    Ok(BOX_BYTES + streams::read_full(reader, &mut buffer[BOX_BYTES..n])?)
 }
 
 fn ended(s: State) -> Turned {
@@ -123,82 +91,91 @@ fn large(n: u64) -> bool
 }
 
 // The list with a line more, for a box of n bytes.
-fn counted(s: State, l: Line, n: usize) -> Turned {
+fn counted(rt: &impl Print, s: State, l: Line, n: usize) -> io::Result<Turned> {
     let t = s.totals;
     if large(t.done) {
-        return ended(s);
+        return Ok(ended(s));
     }
     if large(t.no) {
-        return ended(s);
+        return Ok(ended(s));
     }
     if large(t.yes) {
-        return ended(s);
+        return Ok(ended(s));
     }
     if large(t.free) {
-        return ended(s);
+        return Ok(ended(s));
     }
     if large(t.sum) {
-        return ended(s);
+        return Ok(ended(s));
     }
     if large(l.length as u64) {
-        return ended(s);
+        return Ok(ended(s));
     }
     if large(s.boxes) {
-        return ended(s);
+        return Ok(ended(s));
     }
     if large(s.at) {
-        return ended(s);
+        return Ok(ended(s));
     }
     if large(n as u64) {
-        return ended(s);
+        return Ok(ended(s));
     }
     let number = s.boxes + 1;
     let next = s.at + n as u64;
-    let more = tell(number, l);
-    Turned {
-        more: more,
+    tell(rt, number, l)?;
+    Ok(Turned {
+        more: true,
         state: State {
             boxes: number,
             at: next,
             totals: boxes::added(t, l),
         },
-    }
+    })
 }
 
 // What the first k bytes of the buffer are: the end of the list, a bad box, or a box and its line.
-fn turn(buffer: &[u8], k: usize, res: &mut [u8], work: &mut [u8], s: State) -> Turned {
+fn turn(
+    rt: &impl Print,
+    buffer: &[u8],
+    k: usize,
+    res: &mut [u8],
+    work: &mut [u8],
+    s: State,
+) -> io::Result<Turned> {
     if buffer.len() < k {
-        return ended(s);
+        return Ok(ended(s));
     }
     let b = boxes::box_at(&buffer[..k]);
     match b {
         Boxed::Over => {
-            tell_totals(s.totals);
-            ended(s)
+            tell_totals(rt, s.totals)?;
+            Ok(ended(s))
         }
         Boxed::Bad => {
-            tell_bad(s.at);
-            tell_totals(s.totals);
-            ended(s)
+            tell_bad(rt, s.at)?;
+            tell_totals(rt, s.totals)?;
+            Ok(ended(s))
         }
         Boxed::Whole(n) => {
             if n < BOX_BYTES {
-                return ended(s);
+                return Ok(ended(s));
             }
             if buffer.len() < n {
-                return ended(s);
+                return Ok(ended(s));
             }
             let l = boxes::line_of(&buffer[BOX_BYTES..n], res, work);
-            counted(s, l, n)
+            counted(rt, s, l, n)
         }
     }
 }
 
-fn main() {
+fn main(rt: HostRuntime) -> io::Result<()> {
     let mut buffer = [0u8; 65536];
     let mut result = [0u8; 65536];
     let mut work = [0u8; 65536];
-    let terminal = libc::isatty(2) == 1;
+    let mut reader = rt.reader();
+    let terminal = rt.stderr();
+    let is_terminal = terminal.is_terminal();
     let totals = Totals {
         done: 0,
         no: 0,
@@ -211,17 +188,14 @@ fn main() {
         at: 0,
         totals: totals,
     };
-    let mut left: u64 = 1099511627776;
-    while left > 0 {
-        let k = fetch(&mut buffer);
-        let u = turn(&buffer, k, &mut result, &mut work, s);
-        if u.more {
-            left -= 1;
-            s = u.state;
-            show(terminal, s.boxes);
-        } else {
-            leave(terminal);
-            return;
+    for _ in 0..1099511627776u64 {
+        let k = fetch(&mut reader, &mut buffer)?;
+        let u = turn(&rt, &buffer, k, &mut result, &mut work, s)?;
+        if !u.more {
+            return leave(&terminal, is_terminal);
         }
+        s = u.state;
+        show(&terminal, is_terminal, s.boxes)?;
     }
+    Ok(())
 }

@@ -1,20 +1,13 @@
 // Reads a sheet from standard input, more of it than any limit, and prints one line: answer, verdict, place, result length.
 #![tactic(auto)]
 
-// A number, and what follows it.
-fn show(n: usize, after: &[u8]) {
-    io::print_decimal(1, n as u64);
-    io::write_all(1, after);
-}
+use std::io;
 
-fn main() {
+fn main(rt: HostRuntime) -> io::Result<()> {
     let mut sheet = [0u8; 65600];
     let mut result = [0u8; 65536];
     let mut work = [0u8; 65536];
-    let n = io::read_full(0, &mut sheet);
+    let n = streams::read_full(&mut rt.reader(), &mut sheet)?;
     let r = elimination::eliminate(&sheet[..n], &mut result, &mut work);
-    show(r.number, b" ");
-    show(r.verdict, b" ");
-    show(r.place, b" ");
-    show(r.length, b"\n");
+    println!(rt; "{} {} {} {}", r.number, r.verdict, r.place, r.length)
 }
