@@ -1,4 +1,4 @@
-/* Visebobbin: quantifiers removed from cue sheets. Link with libdesk.a (`rt staticlib desk`).
+/* Visebobbin: quantifiers removed from cue sheets. Link with libdesk.a (`tools/build desk`).
  *
  * Every call ends with a result or a numbered refusal and its place, for any bytes and any lengths: nothing has to be checked first.
  * The caller's duties, which no proof can see:

@@ -1,4 +1,4 @@
-//! The archive stands where `rt staticlib desk` writes it.
+//! The archive stands where `tools/build desk` puts it.
 
 fn main() {
     let root = std::path::Path::new(env!("CARGO_MANIFEST_DIR")).join("../../target/staticlib");
