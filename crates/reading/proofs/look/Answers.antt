@@ -8,16 +8,17 @@ use Rattle.reading.specs.Quantifiers.{look}
 use Rattle.reading.specs.declared.Part.{Part}
 use Rattle.reading.proofs.Looking.{look-within}
 use Rattle.reading.proofs.look.Goals as goal
+use Rattle.reading.proofs.look.Goals.{After-look_part-part}
+
+-- the part lies in the sheet
+within : (c : After-look_part-part) → c.look_part-part.result.at + c.look_part-part.result.length ≤ length c.args.s.now
+within c = rw c.look_part-part.ensures (look-within c.args.s.now (λ i. (c.shared_slice_known-1.given i).fits))
 
 pub overflow_add-end : goal.overflow_add-end
-overflow_add-end c =
-    let within : c.look_part-part.result.at + c.look_part-part.result.length ≤ length c.args.s.now = rw c.look_part-part.ensures (look-within c.args.s.now (λ i. (c.shared_slice_known-1.given i).fits)) in
-    omega (arith, within, c.well_formed.0.0)
+overflow_add-end c = omega (arith, within (goal.at.overflow_add-end c).After-look_part-part, c.well_formed.0.0)
 
 pub slice_bounds-result-end : goal.slice_bounds-result-end
-slice_bounds-result-end c =
-    let within : c.look_part-part.result.at + c.look_part-part.result.length ≤ length c.args.s.now = rw c.look_part-part.ensures (look-within c.args.s.now (λ i. (c.shared_slice_known-1.given i).fits)) in
-    omega (arith, within)
+slice_bounds-result-end c = omega (arith, within (goal.at.slice_bounds-result-end c).After-look_part-part)
 
 pub returns : goal.returns
 unfolding look

@@ -9,14 +9,15 @@ use Rattle.reading.specs.Answers.{reply_of}
 use Rattle.reading.specs.declared.Reply.TheVariants.{Done}
 use Rattle.reading.proofs.Trees.{begins-read}
 use Rattle.reading.proofs.quantifiers.formula_length.Goals as goal
+use Rattle.reading.proofs.quantifiers.formula_length.Goals.{After-formula_at}
+
+-- what the reading of the formula says
+said : (c : After-formula_at) → c.formula_at.result ≡ Done (length (encode (tree_of c.args.s.now)))
+said c = c.formula_at.ensures ∙ ap reply_of (begins-read c.requires)
 
 pub returns-in-Done : goal.returns-in-Done
-returns-in-Done c =
-    let said : c.formula_at.result ≡ Done (length (encode (tree_of c.args.s.now))) = c.formula_at.ensures ∙ ap reply_of (begins-read c.requires) in
-    let a = sym c.in-Done.is ∙ said in cc
+returns-in-Done c = let a = sym c.in-Done.is ∙ said (goal.at.returns-in-Done c).After-formula_at in cc
 
 pub returns-in-Refused : goal.returns-in-Refused
-returns-in-Refused c =
-    let said : c.formula_at.result ≡ Done (length (encode (tree_of c.args.s.now))) = c.formula_at.ensures ∙ ap reply_of (begins-read c.requires) in
-    let a = sym c.in-Refused.is ∙ said in
+returns-in-Refused c = let a = sym c.in-Refused.is ∙ said (goal.at.returns-in-Refused c).After-formula_at in
     let z : ◌≡◌ {A = ℕ} 0 1 = cc in absurd (omega arith)
