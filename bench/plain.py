@@ -1,5 +1,5 @@
 #!/usr/bin/env python3
-"""Writes the Rattle code as plain Rust: the contracts and ghost lines are dropped, plain data is made Copy, nothing else changes.
+"""Writes the Rattle code as plain Rust: the contracts, the ghost lines and the `#[cycle]` marks are dropped, nothing else changes.
 
 Run: plain.py CRATE OUTPUT-FOLDER, for a library of the repository. So the program that the benchmark compares with has the same steps, to the letter.
 """
@@ -12,10 +12,8 @@ import sys
 def rust(text):
     lines, out = text.split("\n"), []
     for line in lines:
-        if re.match(r"\s*(ghost use|requires|ensures)\b", line):
+        if re.match(r"\s*((ghost use|requires|ensures)\b|#\[cycle\()", line):
             continue
-        if re.match(r"\s*(pub )?(struct|enum) ", line):
-            out.append("#[derive(Clone, Copy)]")
         out.append(line)
     return "\n".join(out)
 

@@ -1,4 +1,4 @@
-// The calls that C makes: each a line over the proved call below, with the same promise and no `requires`.
+// The calls that C makes, as `desk_c` exports them: each a line over the proved call below, with the same promise and no `requires`.
 #![tactic(auto)]
 
 ghost use Rattle.std.specs.Prelude.{[], ◌∷◌};
@@ -47,8 +47,7 @@ pub struct Part {
 }
 
 // The sheet's condition with every quantifier gone, at the start of the result buffer.
-#[unsafe(no_mangle)]
-pub extern "C" fn vb_eliminate(sheet: &[u8], res: &mut [u8], work: &mut [u8]) -> Reply
+pub fn vb_eliminate(sheet: &[u8], res: &mut [u8], work: &mut [u8]) -> Reply
     ensures { Eliminates sheet.now res.old work.old result res.new work.new }
 {
     let done = elimination::eliminate(sheet, res, work);
@@ -61,8 +60,7 @@ pub extern "C" fn vb_eliminate(sheet: &[u8], res: &mut [u8], work: &mut [u8]) ->
 }
 
 // The same with the steps that are finished and the most boundary terms of a step that has at most 64.
-#[unsafe(no_mangle)]
-pub extern "C" fn vb_count(sheet: &[u8], res: &mut [u8], work: &mut [u8]) -> Counted
+pub fn vb_count(sheet: &[u8], res: &mut [u8], work: &mut [u8]) -> Counted
     ensures { CountsAlong sheet.now res.old work.old result res.new work.new }
 {
     let all = elimination::eliminate_counted(sheet, res, work);
@@ -79,8 +77,7 @@ pub extern "C" fn vb_count(sheet: &[u8], res: &mut [u8], work: &mut [u8]) -> Cou
 }
 
 // The same in the caller's room, on little stack.
-#[unsafe(no_mangle)]
-pub extern "C" fn vb_eliminate_in(
+pub fn vb_eliminate_in(
     sheet: &[u8],
     res: &mut [u8],
     work: &mut [u8],
@@ -98,8 +95,7 @@ pub extern "C" fn vb_eliminate_in(
 }
 
 // Whether a quantifier-free sheet holds at p0/q .. p7/q.
-#[unsafe(no_mangle)]
-pub extern "C" fn vb_test(
+pub fn vb_test(
     sheet: &[u8],
     p0: i64,
     p1: i64,
@@ -122,8 +118,7 @@ pub extern "C" fn vb_test(
 }
 
 // Number and place of the answer under the limits of a result.
-#[unsafe(no_mangle)]
-pub extern "C" fn vb_read(sheet: &[u8]) -> Place
+pub fn vb_read(sheet: &[u8]) -> Place
     ensures { ReadsAs sheet.now result }
 {
     let read = reading::read(sheet, reading::Limit::Result);
@@ -134,8 +129,7 @@ pub extern "C" fn vb_read(sheet: &[u8]) -> Place
 }
 
 // Where the body of the last quantifier stands in the sheet.
-#[unsafe(no_mangle)]
-pub extern "C" fn vb_look(sheet: &[u8]) -> Part
+pub fn vb_look(sheet: &[u8]) -> Part
     ensures { LooksAt sheet.now result }
 {
     let part = reading::look_part(sheet);

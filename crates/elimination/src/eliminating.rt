@@ -214,7 +214,7 @@ fn carried_on(res: &mut [u8], work: &mut [u8], len: usize, sheet: usize, t: Tall
     carried_near(res, work, len, sheet, t)
 }
 
-// The same in the caller's room of as many bytes as any formula asks for.
+// The same in a room of as many bytes as any formula asks for, which `carried_out` lends.
 fn carried_in(
     res: &mut [u8],
     work: &mut [u8],

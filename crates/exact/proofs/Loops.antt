@@ -1,5 +1,5 @@
 -- What a loop over a slice or an array has done after i turns: `Mapped` (each element replaced by f of it), `fill_done` (an array filled by
--- index), and `all_b` (a test of each element that stops at the first no). A loop's need cites one law of these. Assumes nothing.
+-- index), and `all_b` (a test of each element that stops at the first no). A loop's goal cites one law of these. Assumes nothing.
 use mathlib.Core.Path.{◌≡◌, refl, sym, ◌∙◌, ap, ap₂, subst}
 use mathlib.Core.List.{List, [], ◌∷◌, ◌++◌, map}
 use Prim.Native.Nat.{ℕ, zero, suc, ◌+◌, ◌≤◌, ◌<◌, zero-le}
@@ -61,10 +61,10 @@ module _ {A : Type 0} where
   length-tab zero f = refl
   length-tab (suc n) f = ap suc (length-tab n (λ i. f (suc i)))
 
-  pub get_d-tab : (n : ℕ) (f : ℕ → A) (k : ℕ) (d : A) → k < n → get_or (tab n f) k d ≡ f k
-  get_d-tab zero f k d h = absurd (N.not-suc-le-zero h)
-  get_d-tab (suc n) f zero d h = refl
-  get_d-tab (suc n) f (suc k) d h = get_d-tab n (λ i. f (suc i)) k d (N.le_of_suc-le-suc h)
+  pub get_or-tab : (n : ℕ) (f : ℕ → A) (k : ℕ) (d : A) → k < n → get_or (tab n f) k d ≡ f k
+  get_or-tab zero f k d h = absurd (N.not-suc-le-zero h)
+  get_or-tab (suc n) f zero d h = refl
+  get_or-tab (suc n) f (suc k) d h = get_or-tab n (λ i. f (suc i)) k d (N.le_of_suc-le-suc h)
 
   pub tab-ext : (n : ℕ) (f g : ℕ → A) → ((i : ℕ) → i < n → f i ≡ g i) → tab n f ≡ tab n g
   tab-ext zero f g h = refl
@@ -72,7 +72,7 @@ module _ {A : Type 0} where
 
 module _ {A : Type 0} (d : A) (f : ℕ → A) (n : ℕ) where
   pub fill_done : {s : List A} → Filled d f n s n → s ≡ tab n f
-  fill_done {s} m = ext_get_or d s (tab n f) (m.long ∙ sym (length-tab n f)) (λ i h. let l : i < n = subst (λ (x : ℕ). i < x) m.long h in m.at i l ∙ sym (get_d-tab n f i d l))
+  fill_done {s} m = ext_get_or d s (tab n f) (m.long ∙ sym (length-tab n f)) (λ i h. let l : i < n = subst (λ (x : ℕ). i < x) m.long h in m.at i l ∙ sym (get_or-tab n f i d l))
 
 -- ---- a loop that asks p of each element and stops at the first no
 module _ {A : Type 0} (p : A → Bool) where

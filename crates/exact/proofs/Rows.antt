@@ -21,7 +21,7 @@ use Rattle.exact.specs.Numbers.{at, Within, Each, all_in, is_zero, eq_z, same_ro
 use Rattle.exact.specs.Divisor.{gcd_of, gcd_from, gcds, quots, reduced, divided_by}
 use Rattle.exact.specs.Atoms.{all_zero}
 use Rattle.exact.proofs.Sizes.{quot-exact, rd, fits, in-quot, in-more, in-rd, in-neg}
-use Rattle.exact.proofs.Loops.{all_b, get_d-tab}
+use Rattle.exact.proofs.Loops.{all_b, get_or-tab}
 use Rattle.exact.proofs.Divisors.{gcd-is, gcd-le}
 
 -- one more number
@@ -257,7 +257,7 @@ same_self (x ∷ a) = ap₂ (λ (s t : Bool). s && t) (eq-same x) (same_self a)
 -- ---- numbers of rows that were made from others, and lengths
 
 pub at-tab : (n : ℕ) (f : ℕ → ℤ) (i : ℕ) → i < n → at (tab n f) i ≡ f i
-at-tab n f i h = get_d-tab n f i (pos 0) h
+at-tab n f i h = get_or-tab n f i (pos 0) h
 
 pub at-minus : (l : List ℤ) (i : ℕ) → at (minus l) i ≡ neg_ℤ (at l i)
 unfolding minus

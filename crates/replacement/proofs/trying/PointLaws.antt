@@ -16,7 +16,7 @@ use Rattle.exact.specs.Terms.{midpoint}
 use Rattle.exact.specs.Atoms.{Spot, below, above, here, spot_by}
 use Rattle.exact.specs.declared.PointKind.{PointKind}
 use Rattle.exact.specs.declared.PointKind.TheVariants.{Below, Above, Here, Nowhere}
-use Rattle.exact.proofs.Loops.{length-tab, get_d-tab}
+use Rattle.exact.proofs.Loops.{length-tab, get_or-tab}
 use Rattle.rules.specs.Points.{midpoints, all_midpoints, points, spot_fits}
 use Rattle.rules.specs.Lists.{Known, decided, unknown, known}
 use Rattle.rules.specs.Copies.{copy, fits}
@@ -256,7 +256,7 @@ rows-cons : (n : ℕ) (ts : List ℤ) (i : ℕ) → i < n → drop i (rows_of n 
 unfolding rows_of
 rows-cons n ts i h =
     drop-cons (tab n (row_at ts)) i [] (omega (arith, length-tab n (row_at ts)))
-    ∙ (λ k. get_d-tab n (row_at ts) i [] h k ∷ drop (sym (add-one i) k) (tab n (row_at ts)))
+    ∙ (λ k. get_or-tab n (row_at ts) i [] h k ∷ drop (sym (add-one i) k) (tab n (row_at ts)))
 
 rows_none : (n : ℕ) (ts : List ℤ) (i : ℕ) → n ≤ i → drop i (rows_of n ts) ≡ []
 unfolding rows_of

@@ -1,5 +1,5 @@
 -- `copied` and `copied_list`, which call each other on parts of the source: a part is shorter, and a list counts below the formula that it is. The loop
--- over the members keeps a `Turn`; each need is a law of it.
+-- over the members keeps a `Turn`; each goal is a law of it.
 use Prim.Native.Nat.{◌+◌}
 use lib.ListN.{length}
 use Rattle.replacement.proofs.copying.Turn.{Goes}
