@@ -77,12 +77,7 @@ pub fn vb_count(sheet: &[u8], res: &mut [u8], work: &mut [u8]) -> Counted
 }
 
 // The same in the caller's room, on little stack.
-pub fn vb_eliminate_in(
-    sheet: &[u8],
-    res: &mut [u8],
-    work: &mut [u8],
-    room: &mut [u8],
-) -> Reply
+pub fn vb_eliminate_in(sheet: &[u8], res: &mut [u8], work: &mut [u8], room: &mut [u8]) -> Reply
     ensures { EliminatesIn sheet.now res.old work.old room.old result res.new work.new room.new }
 {
     let kept = elimination::eliminate_in(sheet, res, work, room);
