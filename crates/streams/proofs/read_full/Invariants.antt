@@ -1,9 +1,12 @@
--- What is put at the start of the buffer stays within it, and less of it is left at each turn.
-use Rattle.std.proofs.Common.{◌-◌, ◌≤◌, length}
+-- What is put at the start of the buffer is what the stream gave so far, and less of the buffer is left at each turn.
+use Rattle.std.proofs.Common.{◌≡◌, ◌-◌, ◌≤◌, length, take}
+use Rattle.std.specs.Io.KnownBytes.{Consumes}
 use Rattle.streams.proofs.read_full.Given as goal
 
 abbrev pub invariant-loop-done : goal.invariant-loop-done
-invariant-loop-done g l = l.done ≤ length l.buf
+invariant-loop-done g l =
+    (length l.buf ≡ length l.initial.buf) × (l.done ≤ length l.buf)
+    × Consumes (g.R.Read.remaining l.initial.reader) (g.R.Read.remaining l.reader) (take l.done l.buf)
 
 abbrev pub decreases-loop-done : goal.decreases-loop-done
-decreases-loop-done g l = length l.buf - l.done
+decreases-loop-done g l = length l.initial.buf - l.done
