@@ -12,7 +12,7 @@ import sys
 def rust(text):
     lines, out = text.split("\n"), []
     for line in lines:
-        if re.match(r"\s*((ghost use|requires|ensures)\b|#\[cycle\()", line):
+        if re.match(r"\s*((ghost|requires|ensures)\b|#\[cycle\()", line):
             continue
         out.append(line)
     return "\n".join(out)

@@ -12,8 +12,8 @@ use Rattle.reading.specs.Bytes.{le2, zeros}
 use Rattle.reading.specs.Formula.{Formula, encode}
 use Rattle.reading.specs.Reading.{Read, good, fault, formula_in}
 use Rattle.reading.specs.Answers.{reading}
-use Rattle.reading.specs.declared.Reply.{Reply}
-use Rattle.reading.specs.declared.Reply.TheVariants.{Done, Refused}
+use Rattle.reading.specs.Answers.{Reply}
+use Rattle.reading.specs.Answers.{Done, Refused}
 use Rattle.rules.specs.Steps.{Run, ran, halted, eliminated}
 use Rattle.rules.specs.Eliminate.{refused, delivered, cleared, finished, by_run, by_reading, eliminate, Roomy}
 use Rattle.rules.specs.Counts.{Counts, uncounted, counts_by, counted}

@@ -1,7 +1,7 @@
 // What the gate's programs share: the next case of a stream, numbers on a line, and the checksum of bytes.
 #![tactic(auto)]
 
-ghost use Rattle.std.specs.Prelude.{◌+◌, ◌<◌, ◌≤◌, length};
+ghost use Rattle.std.specs.Prelude.{◌≤◌, length, IfOk, IfSome};
 
 use std::io;
 use std::io::Read;
@@ -12,49 +12,33 @@ pub fn show(rt: &impl Print, n: usize, after: &[u8]) -> io::Result<()> {
     rt.write_all(after)
 }
 
-// The number in the four bytes of s from i on.
-pub fn number_at(s: &[u8], i: usize) -> u64
-    requires { i + 4 ≤ length s.now }
-    ensures { result < 4294967296 }
-{
-    let low = reading::u16_at(s, i) as u64;
-    let high = reading::u16_at(s, i + 2) as u64;
-    low + 65536 * high
-}
-
-// The length of the next case, which stands before it in four bytes; past every buffer where the input has ended.
-fn next_length<R: Read>(reader: &mut R) -> io::Result<usize> {
+// The length of the next case, which stands before it in four bytes; none where the input has ended.
+fn next_length<R: Read>(reader: &mut R) -> io::Result<Option<usize>> {
     let mut head = [0u8; 4];
     let got = streams::read_full(reader, &mut head)?;
     if got < 4 {
-        return Ok(4294967295);
+        return Ok(None);
     }
-    Ok(number_at(&head, 0) as usize)
+    Ok(Some(u32::from_le_bytes(head) as usize))
 }
 
-// The next case's bytes, at the start of the buffer; their number, or one past the buffer where there is none.
-pub fn fetch<R: Read>(reader: &mut R, buffer: &mut [u8]) -> io::Result<usize> {
-    let n = next_length(reader)?;
+// How many bytes the next case has, which are at the start of the buffer then; none where there is no further case, or no room for it.
+pub fn fetch<R: Read>(reader: &mut R, buffer: &mut [u8]) -> io::Result<Option<usize>>
+    ensures { IfOk result (λ case. IfSome case (λ n. n ≤ length buffer.new)) }
+{
+    let Some(n) = next_length(reader)? else {
+        return Ok(None);
+    };
     if buffer.len() < n {
-        return Ok(n);
+        return Ok(None);
     }
     streams::read_full(reader, &mut buffer[..n])?;
-    Ok(n)
-}
-
-// One byte more of the checksum: the multiplication by 2^40 + 435 wraps.
-fn checked(h: u64, b: u8) -> u64 {
-    let x = h ^ (b as u64);
-    let low = (x % 4294967296) * 435;
-    let high = (x / 4294967296 % 4294967296) * 435;
-    (x << 40).wrapping_add(low.wrapping_add(high << 32))
+    Ok(Some(n))
 }
 
 // The checksum of the bytes (FNV-1a, 64 bits).
 pub fn checksum(s: &[u8]) -> u64 {
-    let mut h: u64 = 14695981039346656037;
-    for b in s {
-        h = checked(h, *b);
-    }
-    h
+    s.iter().fold(14695981039346656037, |h, b| {
+        (h ^ u64::from(*b)).wrapping_mul(1099511628211)
+    })
 }

@@ -37,31 +37,16 @@ fn line(rt: &impl Print, sheet: &[u8], res: &mut [u8], work: &mut [u8]) -> io::R
     println!(rt)
 }
 
-// A line for the first n bytes; false where there are not so many.
-fn shown(
-    rt: &impl Print,
-    buffer: &[u8],
-    n: usize,
-    res: &mut [u8],
-    work: &mut [u8],
-) -> io::Result<bool> {
-    if buffer.len() < n {
-        return Ok(false);
-    }
-    line(rt, &buffer[..n], res, work)?;
-    Ok(true)
-}
-
 fn main(rt: HostRuntime) -> io::Result<()> {
     let mut buffer = [0u8; 65600];
     let mut result = [0u8; 65536];
     let mut work = [0u8; 65536];
     let mut reader = rt.reader();
     for _ in 0..20000 {
-        let n = cases::fetch(&mut reader, &mut buffer)?;
-        if !shown(&rt, &buffer, n, &mut result, &mut work)? {
+        let Some(n) = cases::fetch(&mut reader, &mut buffer)? else {
             break;
-        }
+        };
+        line(&rt, &buffer[..n], &mut result, &mut work)?;
     }
     Ok(())
 }

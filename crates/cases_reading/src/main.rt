@@ -3,6 +3,7 @@
 // where it is not empty, the checksum of its bytes (FNV-1a, 64 bits).
 #![tactic(auto)]
 
+use reading::{Limit, Refused};
 use std::io;
 
 // The part that the look gives back.
@@ -14,35 +15,31 @@ fn body(rt: &impl Print, s: &[u8]) -> io::Result<()> {
     print!(rt; " {}", cases::checksum(s))
 }
 
-fn line(rt: &impl Print, s: &[u8]) -> io::Result<()> {
-    let sheet = reading::read(s, reading::Limit::Sheet);
-    let result = reading::read(s, reading::Limit::Result);
-    let part = reading::look_part(s);
-    print!(rt;
-        "{} {} {} {} {} {} ",
-        sheet.number, sheet.place, result.number, result.place, part.at, part.length
-    )?;
-    body(rt, reading::look(s))?;
-    println!(rt)
+// Number and place: 0 and 0 where nothing is refused.
+fn show_read(rt: &impl Print, read: Result<usize, Refused>) -> io::Result<()> {
+    match read {
+        Ok(_) => print!(rt; "0 0 "),
+        Err(r) => print!(rt; "{} {} ", r.why.number(), r.place),
+    }
 }
 
-// A line for the first n bytes; false where there are not so many.
-fn shown(rt: &impl Print, buffer: &[u8], n: usize) -> io::Result<bool> {
-    if buffer.len() < n {
-        return Ok(false);
-    }
-    line(rt, &buffer[..n])?;
-    Ok(true)
+fn line(rt: &impl Print, s: &[u8]) -> io::Result<()> {
+    show_read(rt, reading::read(s, Limit::Sheet))?;
+    show_read(rt, reading::read(s, Limit::Result))?;
+    let part = reading::look_part(s);
+    print!(rt; "{} {} ", part.at, part.length)?;
+    body(rt, reading::look(s))?;
+    println!(rt)
 }
 
 fn main(rt: HostRuntime) -> io::Result<()> {
     let mut buffer = [0u8; 65600];
     let mut reader = rt.reader();
     for _ in 0..20000 {
-        let n = cases::fetch(&mut reader, &mut buffer)?;
-        if !shown(&rt, &buffer, n)? {
+        let Some(n) = cases::fetch(&mut reader, &mut buffer)? else {
             break;
-        }
+        };
+        line(&rt, &buffer[..n])?;
     }
     Ok(())
 }

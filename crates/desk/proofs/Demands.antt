@@ -15,9 +15,9 @@ use Rattle.reading.specs.Bytes.{Bytes, zeros}
 use Rattle.reading.specs.Formula.{Formula, encode, Fits, Free}
 use Rattle.reading.specs.Answers.{reading, answer_of}
 use Rattle.reading.specs.Quantifiers.{AtQuantifier, look_part, look_within}
-use Rattle.reading.specs.declared.Answer.{Answer}
+use Rattle.reading.specs.Answers.{Answer}
 use Rattle.reading.specs.declared.Part as Reading
-use Rattle.reading.specs.declared.Reply.TheVariants.{Done}
+use Rattle.reading.specs.Answers.{Done}
 use Rattle.reading.proofs.Trees as Trees
 use Rattle.reading.proofs.Refusals as Refusals
 use Rattle.reading.proofs.Whole as Whole

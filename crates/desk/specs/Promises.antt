@@ -4,7 +4,7 @@ use Rattle.std.specs.Prelude.{◌≡◌, List, ℕ, ℤ, length, drop}
 use Rattle.reading.specs.Limits.{result_bytes, result_levels}
 use Rattle.reading.specs.Answers.{reading, answer_of}
 use Rattle.reading.specs.Quantifiers.{look_part}
-use Rattle.reading.specs.declared.Answer.{Answer}
+use Rattle.reading.specs.Answers.{Answer}
 use Rattle.reading.specs.declared.Part as Reading
 use Rattle.rules.specs.Eliminate.{Result, eliminate, eliminate_in, room_bytes}
 use Rattle.rules.specs.Counts.{Counts, counted}

@@ -1,8 +1,12 @@
 // The calls that C makes, as `desk_c` exports them: each a line over the proved call below, with the same promise and no `requires`.
 #![tactic(auto)]
 
-ghost use Rattle.std.specs.Prelude.{[], ◌∷◌};
-ghost use Rattle.desk.specs.Promises.{Eliminates, EliminatesIn, CountsAlong, TestsAt, ReadsAs, LooksAt};
+ghost use Rattle.std.specs.Prelude.{◌≡◌, [], ◌∷◌};
+ghost use Rattle.reading.specs.Answers.{told, answer_of};
+ghost use Rattle.testing.specs.Testing.{trial_of};
+ghost use Rattle.desk.specs.Promises.{gave_test, gave_place, Eliminates, EliminatesIn, CountsAlong, TestsAt, ReadsAs, LooksAt};
+
+use reading::{Limit, Refused};
 
 #[repr(C)]
 #[derive(Clone, Copy)]
@@ -32,11 +36,45 @@ pub struct Tested {
     pub place: u64,
 }
 
+impl From<Result<bool, Refused>> for Tested {
+    ghost from_gives = { λ said t. gave_test t ≡ trial_of said };
+
+    fn from(said: Result<bool, Refused>) -> Self {
+        match said {
+            Ok(holds) => Tested {
+                number: 0,
+                verdict: u64::from(holds),
+                place: 0,
+            },
+            Err(not) => Tested {
+                number: not.why.number() as u64,
+                verdict: 3,
+                place: not.place as u64,
+            },
+        }
+    }
+}
+
 #[repr(C)]
 #[derive(Clone, Copy)]
 pub struct Place {
     pub number: u64,
     pub place: u64,
+}
+
+impl From<Result<usize, Refused>> for Place {
+    ghost from_gives = { λ read a. gave_place a ≡ answer_of (told read) };
+
+    fn from(read: Result<usize, Refused>) -> Self {
+        let (number, place) = match read {
+            Ok(_) => (0, 0),
+            Err(refused) => (refused.why.number(), refused.place),
+        };
+        Place {
+            number: number as u64,
+            place: place as u64,
+        }
+    }
 }
 
 #[repr(C)]
@@ -104,23 +142,14 @@ pub fn vb_test(
 ) -> Tested
     ensures { TestsAt sheet.now (p0 ∷ p1 ∷ p2 ∷ p3 ∷ p4 ∷ p5 ∷ p6 ∷ p7 ∷ q ∷ []) result }
 {
-    let said = testing::test(sheet, [p0, p1, p2, p3, p4, p5, p6, p7, q]);
-    Tested {
-        number: said.number as u64,
-        verdict: said.verdict as u64,
-        place: said.place as u64,
-    }
+    Tested::from(testing::test(sheet, [p0, p1, p2, p3, p4, p5, p6, p7, q]))
 }
 
 // Number and place of the answer under the limits of a result.
 pub fn vb_read(sheet: &[u8]) -> Place
     ensures { ReadsAs sheet.now result }
 {
-    let read = reading::read(sheet, reading::Limit::Result);
-    Place {
-        number: read.number as u64,
-        place: read.place as u64,
-    }
+    Place::from(reading::read(sheet, Limit::Result))
 }
 
 // Where the body of the last quantifier stands in the sheet.

@@ -9,8 +9,7 @@ use Rattle.elimination.specs.Stepping.{held, Stands}
 use Rattle.elimination.specs.declared.Ran.{Ran}
 use Rattle.elimination.specs.declared.Tally.{Tally}
 use Rattle.rules.specs.Counts.{Counts, counts_of, together}
-use Rattle.reading.specs.declared.Found.{Found}
-use Rattle.reading.specs.declared.Found.TheVariants.{At, Nothing}
+use Rattle.std.specs.Prelude.{Option, Some, None}
 
 -- the formula in the first n bytes of cur is on the way of f: its run is that of f
 pub record Reached (f : Formula) (n : ℕ) (cur : List ℕ) : Type 0 where
@@ -49,10 +48,10 @@ RanCounts f t cur (Ran.Short k) u = CountsLeft f t k cur u
 
 -- ---- the answers that the run asks for
 
-abbrev pub is_at : Found → Bool
-is_at (At o) = true
-is_at Nothing = false
+abbrev pub is_at : Option ℕ → Bool
+is_at (Some o) = true
+is_at None = false
 
-abbrev pub offset_of : Found → ℕ
-offset_of (At o) = o
-offset_of Nothing = 0
+abbrev pub offset_of : Option ℕ → ℕ
+offset_of (Some o) = o
+offset_of None = 0

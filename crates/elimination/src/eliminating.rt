@@ -14,7 +14,7 @@ ghost use Rattle.elimination.specs.Eliminating.{Accepted, Gives, Carries, Carrie
 ghost use Rattle.rules.specs.Eliminate.{cleared, eliminate, eliminate_in, refused, delivered, verdict_by, by_run, room_bytes};
 
 use crate::{Came, Carried, Counted, Finished, Ran, Reply, Tally, finishing, running};
-use reading::{LIST_BYTES, Limit, RESULT_BYTES, read_whole};
+use reading::{LIST_BYTES, Limit, RESULT_BYTES, read};
 
 // Room for the copies of a body, for a list up to six bytes longer than a result and then for a copy, which has at most seven times the bytes of the
 // body: in a formula of up to 4,680 bytes, of up to 9,361, of up to 18,723, as long as a sheet may be, and in any formula.
@@ -311,9 +311,9 @@ pub fn eliminate_counted(sheet: &[u8], res: &mut [u8], work: &mut [u8]) -> Count
     if work.len() < RESULT_BYTES {
         return counted(refused(1, 0), nothing());
     }
-    match read_whole(sheet, Limit::Sheet) {
-        reading::Reply::Refused(number, place) => counted(refused(number, place), nothing()),
-        reading::Reply::Done(_) => accepted(sheet, res, work),
+    match read(sheet, Limit::Sheet) {
+        Err(r) => counted(refused(r.why.number(), r.place), nothing()),
+        Ok(_) => accepted(sheet, res, work),
     }
 }
 
@@ -346,9 +346,9 @@ pub fn eliminate_in(sheet: &[u8], res: &mut [u8], work: &mut [u8], room: &mut [u
     if room.len() < least {
         return refused(1, 0);
     }
-    match read_whole(sheet, Limit::Sheet) {
-        reading::Reply::Refused(number, place) => refused(number, place),
-        reading::Reply::Done(_) => {
+    match read(sheet, Limit::Sheet) {
+        Err(r) => refused(r.why.number(), r.place),
+        Ok(_) => {
             let c = accepted_in(sheet, res, work, &mut room[..least]);
             c.reply
         }

@@ -7,23 +7,23 @@ ghost use Rattle.elimination.specs.Stepping.{held, Stands};
 ghost use Rattle.elimination.specs.Running.{Runs, RanCounts, is_at, offset_of};
 
 use crate::{Ran, Stepped, Tally, Went, stepping};
-use reading::{Found, last_quantifier};
+use reading::last_quantifier;
 
-fn is_at(f: Found) -> bool
+fn is_at(f: Option<usize>) -> bool
     ensures { result ≡ is_at f }
 {
     match f {
-        Found::At(_) => true,
-        Found::Nothing => false,
+        Some(_) => true,
+        None => false,
     }
 }
 
-fn offset_of(f: Found) -> usize
+fn offset_of(f: Option<usize>) -> usize
     ensures { result ≡ offset_of f }
 {
     match f {
-        Found::At(o) => o,
-        Found::Nothing => 0,
+        Some(o) => o,
+        None => 0,
     }
 }
 

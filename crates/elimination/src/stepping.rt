@@ -1,8 +1,7 @@
 // One step over the formula in a buffer: the last quantifier is replaced, body and all, and the bytes after it move to where the replacement ends.
-ghost use Rattle.std.specs.Prelude.{◌≡◌, ◌+◌, ◌-◌, ◌*◌, ◌≤◌, ◌<◌, length};
+ghost use Rattle.std.specs.Prelude.{◌≡◌, ◌+◌, ◌-◌, ◌*◌, ◌≤◌, ◌<◌, length, Some};
 ghost use Rattle.reading.specs.Limits.{result_bytes, most_terms};
 ghost use Rattle.reading.specs.Quantifiers.{last_in, found_of};
-ghost use Rattle.reading.specs.declared.Found.TheVariants.{At};
 ghost use Rattle.rules.specs.Points.{points, terms};
 ghost use Rattle.rules.specs.Counts.{terms_at};
 ghost use Rattle.elimination.specs.Stepping.{held, Stands, Tried, Steps, Poised, Places, Splices, Joins};
@@ -172,7 +171,7 @@ fn step_with(
 pub fn one_step(cur: &mut [u8], work: &mut [u8], room: &mut [u8], len: usize, o: usize) -> Turn
     requires stands { Stands len cur.old }
     requires result_bytes_in_bounds { result_bytes ≤ length work.old }
-    requires cur_value { found_of (last_in (held len cur.old)) ≡ At o }
+    requires cur_value { found_of (last_in (held len cur.old)) ≡ Some o }
     ensures { Steps (held len cur.old) (length room.old) cur.old cur.new work.old work.new result.stepped × (result.terms ≡ terms_at (last_in (held len cur.old))) }
 {
     let b = binder_at(&cur[o..len]);

@@ -15,7 +15,7 @@ use Rattle.reading.specs.AnswerNumbers.{long_sheet, bytes_after}
 use Rattle.reading.specs.Formula.{Formula, encode, Fits}
 use Rattle.reading.specs.Reading.{Read, formula_in, good, fault}
 use Rattle.reading.specs.Answers.{whole_of, reading}
-use Rattle.reading.specs.declared.Reply.TheVariants.{Done, Refused}
+use Rattle.reading.specs.Answers.{Done, Refused}
 use Rattle.reading.proofs.Laws.{reads}
 use Rattle.reading.proofs.Sound.{Right, formula_in-right}
 

@@ -13,7 +13,7 @@ use Rattle.reading.specs.Records.{kind_of, sized, in_m, all_m, by_kind, head}
 use Rattle.reading.specs.Reading.{formulas_in, formula_in}
 use Rattle.reading.specs.Answers.{reading, answer_of}
 use Rattle.reading.specs.Quantifiers.{seek, look_part, look}
-use Rattle.reading.specs.declared.Answer.{Answer}
+use Rattle.reading.specs.Answers.{Answer}
 
 -- a x + c under a comparison
 abbrev row : ℤ → ℤ → List ℤ

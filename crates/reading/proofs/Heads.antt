@@ -1,59 +1,56 @@
 -- 01, 'A sheet on disk': which kind a number is, and that a record of four bytes or more is read by its kind. The functions that read one
 -- record cite it. Assumes nothing.
-use mathlib.Core.Path.{◌≡◌, refl}
+use mathlib.Core.Path.{◌≡◌, refl, ◌∙◌}
 use mathlib.Core.List.{List}
-use mathlib.Core.Logic.{⊎_elim}
-use Prim.Native.Nat.{ℕ, suc, ◌≤◌, ◌<◌}
-use native.Mathlib.Nat.{eq-or-lt_of_le}
-use native.Mathlib.Omega.{arith}
+use mathlib.Core.Bool.{cond}
+use Prim.Native.Nat.{ℕ, ◌≤◌, ◌<◌}
+use lib.Dec.{leb}
 use lib.ListN.{length}
-use borrow.Author.Tests.{le-ltb, ne_eqb}
-use mathlib.Core.Bool.{Bool, true, false}
-use Rattle.reading.specs.Bytes.{le2}
-use Rattle.reading.specs.Formula.{Comparison, comparison_no, list_no, quant_no, less, atmost, equal}
-use Rattle.reading.specs.Records.{kind_of, by_kind, head, atom_k, not_k, list_k, quant_k, window_k, unknown_k}
+use borrow.Author.Tests.{le-ltb, lt-ltb, ne_eqb, eq-eqb}
+use Rattle.reading.specs.Limits.{last_variable}
+use Rattle.reading.specs.AnswerNumbers.{cut_short, wrong_length, wrong_variable, wrong_number}
+use Rattle.reading.specs.Bytes.{le2, int4, ints}
+use Rattle.reading.specs.Formula.{atom_l, not_l, list_l, quant_l, window_l}
+use Rattle.reading.specs.Records.{Record, bad, opened, sized, all_m, kind_of, by_kind, head, unknown_k}
+use Rattle.reading.specs.Views.{comparison_in, shape_kind, shape_size}
+use Rattle.reading.specs.declared.Shape.{Shape}
 
--- a number from a on, below a + 1, a + 2, a + 3
-in_one : (P : ℕ → Type 0) (a : ℕ) → P a → (k : ℕ) → a ≤ k → k < suc a → P k
-in_one P a p k lo hi = let e : k ≡ a = omega arith in rw e p
-
-in_two : (P : ℕ → Type 0) (a : ℕ) → P a → P (suc a) → (k : ℕ) → a ≤ k → k < suc (suc a) → P k
-in_two P a p q k lo hi = ⊎_elim (λ e. rw (← e) p) (λ l. in_one P (suc a) q k l hi) (eq-or-lt_of_le lo)
-
-in_three : (P : ℕ → Type 0) (a : ℕ) → P a → P (suc a) → P (suc (suc a)) → (k : ℕ) → a ≤ k → k < suc (suc (suc a)) → P k
-in_three P a p q r k lo hi = ⊎_elim (λ e. rw (← e) p) (λ l. in_two P (suc a) q r k l hi) (eq-or-lt_of_le lo)
-
--- the numbers 1 to 3, 5 and 6, 7 and 8, and each of the others
-pub kind-atom : (k : ℕ) → 0 < k → k < 4 → (c : Comparison) × (kind_of k ≡ atom_k c) × (k ≡ comparison_no c)
+-- a number that is none of 1 to 9
+pub kind-other : (k : ℕ) → (k ≡ 1 → ⊥) → (k ≡ 2 → ⊥) → (k ≡ 3 → ⊥) → (k ≡ 4 → ⊥) → (k ≡ 5 → ⊥) → (k ≡ 6 → ⊥) → (k ≡ 7 → ⊥) → (k ≡ 8 → ⊥) → (k ≡ 9 → ⊥) → unknown_k ≡ kind_of k
 unfolding kind_of
-kind-atom k lo hi = in_three (λ k. (c : Comparison) × (kind_of k ≡ atom_k c) × (k ≡ comparison_no c)) 1 (less, refl, refl) (atmost, refl, refl) (equal, refl, refl) k lo hi
-
-pub kind-list : (k : ℕ) → 4 < k → k < 7 → (b : Bool) × (kind_of k ≡ list_k b) × (k ≡ list_no b)
-unfolding kind_of
-kind-list k lo hi = in_two (λ k. (b : Bool) × (kind_of k ≡ list_k b) × (k ≡ list_no b)) 5 (true, refl, refl) (false, refl, refl) k lo hi
-
-pub kind-quant : (k : ℕ) → 6 < k → k < 9 → (b : Bool) × (kind_of k ≡ quant_k b) × (k ≡ quant_no b)
-unfolding kind_of
-kind-quant k lo hi = in_two (λ k. (b : Bool) × (kind_of k ≡ quant_k b) × (k ≡ quant_no b)) 7 (false, refl, refl) (true, refl, refl) k lo hi
-
-pub kind-not : {k : ℕ} → k ≡ 4 → kind_of k ≡ not_k
-unfolding kind_of
-kind-not e = rw e
-
-pub kind-window : {k : ℕ} → k ≡ 9 → kind_of k ≡ window_k
-unfolding kind_of
-kind-window e = rw e
-
-pub kind-zero : {k : ℕ} → k ≡ 0 → kind_of k ≡ unknown_k
-unfolding kind_of
-kind-zero e = rw e
-
-pub kind-unknown : (k : ℕ) → 9 < k → kind_of k ≡ unknown_k
-unfolding kind_of
-kind-unknown k h =
-    simp (ne_eqb k 1 (omega arith), ne_eqb k 2 (omega arith), ne_eqb k 3 (omega arith), ne_eqb k 4 (omega arith), ne_eqb k 5 (omega arith), ne_eqb k 6 (omega arith), ne_eqb k 7 (omega arith), ne_eqb k 8 (omega arith), ne_eqb k 9 (omega arith))
+kind-other k a b c d e f g h i =
+    simp (ne_eqb k 1 a, ne_eqb k 2 b, ne_eqb k 3 c, ne_eqb k 4 d, ne_eqb k 5 e, ne_eqb k 6 f, ne_eqb k 7 g, ne_eqb k 8 h, ne_eqb k 9 i)
 
 -- a record with its first four bytes is read by its kind
 pub head_at : (s : List ℕ) {l k : ℕ} → 4 ≤ length s → l ≡ le2 s 0 → k ≡ le2 s 2 → head s ≡ by_kind (kind_of k) l s
 unfolding head
 head_at s {l} {k} long el ek = simp (le-ltb (length s) 4 long, ← ek, ← el)
+
+-- ---- a record of a known kind: its length is judged first, and then its fields
+
+unfoldable pub fields_of : Shape → List ℕ → Record
+fields_of (Shape.Atom c) s = cond (all_m 9 4 s) (opened (atom_l (comparison_in c) (ints 9 4 s))) (bad wrong_number)
+fields_of Shape.Not s = opened not_l
+fields_of (Shape.List b) s = opened (list_l b (le2 s 4))
+fields_of (Shape.Quantifier b) s = cond (leb (le2 s 4) last_variable) (opened (quant_l b (le2 s 4))) (bad wrong_variable)
+fields_of Shape.Window s = cond (leb (le2 s 4) last_variable) (cond (all_m 2 6 s) (opened (window_l (le2 s 4) (int4 s 6) (int4 s 10))) (bad wrong_number)) (bad wrong_variable)
+
+by-shape : (k : Shape) (l : ℕ) (s : List ℕ) → by_kind (shape_kind k) l s ≡ sized (shape_size k) l s (fields_of k s)
+unfolding by_kind fields_of
+by-shape (Shape.Atom c) l s = refl
+by-shape Shape.Not l s = refl
+by-shape (Shape.List b) l s = refl
+by-shape (Shape.Quantifier b) l s = refl
+by-shape Shape.Window l s = refl
+
+pub length-wrong : (k : Shape) {l : ℕ} (s : List ℕ) → (l ≡ shape_size k → ⊥) → by_kind (shape_kind k) l s ≡ bad wrong_length
+unfolding sized
+length-wrong k {l} s h = by-shape k l s ∙ simp (ne_eqb l (shape_size k) h)
+
+pub length-short : (k : Shape) (s : List ℕ) → length s < shape_size k → by_kind (shape_kind k) (shape_size k) s ≡ bad cut_short
+unfolding sized
+length-short k s h = by-shape k (shape_size k) s ∙ simp (eq-eqb (shape_size k) (shape_size k) refl, lt-ltb _ _ h)
+
+pub length-right : (k : Shape) (s : List ℕ) → shape_size k ≤ length s → by_kind (shape_kind k) (shape_size k) s ≡ fields_of k s
+unfolding sized
+length-right k s h = by-shape k (shape_size k) s ∙ simp (eq-eqb (shape_size k) (shape_size k) refl, le-ltb _ _ h)

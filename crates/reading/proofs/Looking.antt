@@ -14,13 +14,13 @@ use Rattle.reading.specs.Formula.{Formula, field_bytes, record_bytes, encode, Fi
 use Rattle.reading.specs.Reading.{formula_in, tree_of, Begins, Exactly}
 use Rattle.reading.specs.Answers.{reading}
 use Rattle.reading.specs.Quantifiers.{Quantifier, seek, last_in, found_of, body_part, part_in, look_part, look, nothing, at}
-use Rattle.reading.specs.declared.Found.TheVariants.{At, Nothing}
-use Rattle.reading.specs.declared.Reply.{Reply}
-use Rattle.reading.specs.declared.Reply.TheVariants.{Done, Refused}
+use Rattle.reading.specs.Answers.{Reply}
+use Rattle.reading.specs.Answers.{Done, Refused}
 use Rattle.reading.specs.declared.Part.{Part}
 use Rattle.reading.proofs.Lengths.{four-long}
 use Rattle.reading.proofs.Trees.{fits_more, accepted-read, accepted-exactly}
 use Rattle.reading.proofs.Places.{Stands, Stood, stands-right, stands-drop, stands-within, found-splits, last-free}
+use Rattle.std.specs.Prelude.{Some, None}
 
 -- ---- the quantifier that a search finds at o, and its body
 
@@ -35,11 +35,11 @@ pub record Body (last : Bool) (s : List ℕ) (o : ℕ) : Type 0 where
   pub within : o + 6 + length (encode body) ≤ length s
 
 -- where a search finds o, the record there is that of a quantifier, and its body begins six bytes later
-pub body_at : (last : Bool) {s : List ℕ} {o : ℕ} → Exactly s (tree_of s) → found_of (seek last nothing 0 (tree_of s)) ≡ At o → Body last s o
+pub body_at : (last : Bool) {s : List ℕ} {o : ℕ} → Exactly s (tree_of s) → found_of (seek last nothing 0 (tree_of s)) ≡ Some o → Body last s o
 unfolding encode record_bytes field_bytes
 body_at last {s} {o} x e = go (seek last nothing 0 (tree_of s)) refl (subst (λ (t : List ℕ). Stood tree_levels t (seek last nothing 0 (tree_of s))) (sym x.bytes) (found-splits last tree_levels (tree_of s) x.fits)) e
   where
-    go : (q : Quantifier) → seek last nothing 0 (tree_of s) ≡ q → Stood tree_levels s q → found_of q ≡ At o → Body last s o
+    go : (q : Quantifier) → seek last nothing 0 (tree_of s) ≡ q → Stood tree_levels s q → found_of q ≡ Some o → Body last s o
     go nothing f h e = let z : ◌≡◌ {A = ℕ} 0 1 = cc in absurd (omega arith)
     go (at p b v g) f h e =
         let k : p ≡ o = cc in
@@ -69,7 +69,7 @@ unfolding look_part
 look-refused s h = ap (λ (r : Reply). part_in r (formula_in result_levels s)) h
 
 -- nor where no quantifier is found
-pub look-nothing : (q : Quantifier) → found_of q ≡ Nothing → body_part q ≡ record { at = 0; length = 0 }
+pub look-nothing : (q : Quantifier) → found_of q ≡ None → body_part q ≡ record { at = 0; length = 0 }
 look-nothing nothing e = refl
 look-nothing (at o b v f) e = let z : ◌≡◌ {A = ℕ} 0 1 = cc in absurd (omega arith)
 

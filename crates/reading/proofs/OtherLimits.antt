@@ -13,7 +13,7 @@ use Rattle.reading.specs.Formula.{Formula, Formulas, Label, size}
 use Rattle.reading.specs.Records.{Record, bad, opened, head}
 use Rattle.reading.specs.Reading.{Read, good, fault, joined, then, formulas_in, headed, too_deep, by_record, formula_in}
 use Rattle.reading.specs.Answers.{whole_of, reading}
-use Rattle.reading.specs.declared.Reply.TheVariants.{Done, Refused}
+use Rattle.reading.specs.Answers.{Done, Refused}
 
 -- ---- a formula, to fewer levels
 

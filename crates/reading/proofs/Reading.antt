@@ -13,9 +13,9 @@ use Rattle.reading.specs.Formula.{Formula, Formulas, Label, size, follow}
 use Rattle.reading.specs.Records.{Record, head, bad, opened}
 use Rattle.reading.specs.Reading.{Read, joined, then, formulas_in, headed, too_deep, by_record, formula_in, good, fault}
 use Rattle.reading.specs.Answers.{head_of, reply_of}
-use Rattle.reading.specs.declared.Head.TheVariants.{Bad, Open}
-use Rattle.reading.specs.declared.Reply.{Reply}
-use Rattle.reading.specs.declared.Reply.TheVariants.{Done, Refused}
+use Rattle.reading.specs.Answers.{Bad, Open}
+use Rattle.reading.specs.Answers.{Reply}
+use Rattle.reading.specs.Answers.{Done, Refused}
 use Rattle.reading.proofs.Cases.{head_in}
 
 -- ---- one record is as long as it says

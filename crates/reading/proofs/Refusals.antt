@@ -15,8 +15,8 @@ use Rattle.reading.specs.Formula.{Formula, Formulas, Label, follow, size}
 use Rattle.reading.specs.Records.{Record, bad, opened, Kind, atom_k, not_k, list_k, quant_k, window_k, unknown_k, kind_of, sized, all_m, by_kind, head}
 use Rattle.reading.specs.Reading.{Read, good, fault, joined, then, formulas_in, headed, too_deep, by_record, formula_in}
 use Rattle.reading.specs.Answers.{whole_of, reading, answer_of}
-use Rattle.reading.specs.declared.Reply.{Reply}
-use Rattle.reading.specs.declared.Reply.TheVariants.{Done, Refused}
+use Rattle.reading.specs.Answers.{Reply}
+use Rattle.reading.specs.Answers.{Done, Refused}
 
 -- ---- records
 

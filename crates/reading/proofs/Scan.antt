@@ -13,10 +13,9 @@ use Rattle.reading.specs.Bytes.{le2}
 use Rattle.reading.specs.Formula.{Formula, Formulas, count, Label, label_of, kind_no, size, field_bytes, record_bytes, encode, encodes, InRange, Fits, AllFit, less, atmost, equal, atom, not, list, quant, window, none, more, atom_l, not_l, list_l, quant_l, window_l}
 use Rattle.reading.specs.Reading.{tree_of, Exactly}
 use Rattle.reading.specs.Quantifiers.{Quantifier, met, seek, seeks, found_of, is_quantifier, nothing, at}
-use Rattle.reading.specs.declared.Found.{Found}
-use Rattle.reading.specs.declared.Found.TheVariants.{At, Nothing}
 use Rattle.reading.proofs.Laws.{two, record-long, kind-small, size_small}
 use Rattle.reading.proofs.Trees.{fits_more, all_fit_more}
+use Rattle.std.specs.Prelude.{Option, Some, None}
 
 -- ---- formulas one after the other
 
@@ -89,10 +88,10 @@ apart-seeks last cur d p (quant b v f) gs w = ap (λ (n : ℕ). seeks last (seek
 apart-seeks last cur d p (window v lo hi) gs w = ap (λ (n : ℕ). seeks last cur (p + n) gs) (record-long (window_l v lo hi) w.1)
 
 -- the kind of the record says whether a quantifier is noticed
-abbrev pub after : Bool → Found → ℕ → Found
-after true found p = At p
-after false Nothing p = At p
-after false (At o) p = At o
+abbrev pub after : Bool → Option ℕ → ℕ → Option ℕ
+after true found p = Some p
+after false None p = Some p
+after false (Some o) p = Some o
 
 met-after : (last : Bool) (cur : Quantifier) (p : ℕ) (b : Bool) (v : ℕ) (f : Formula) → found_of (met last cur (at p b v f)) ≡ after last (found_of cur) p
 met-after true cur p b v f = refl
@@ -119,7 +118,7 @@ header l u = (two (size l) (size_small l).1, two (kind_no l) (kind-small l))
 -- ---- the walk
 
 -- at a record of s: what is left, and the quantifier that is found so far; `goal` is what the whole walk will find
-pub record Scanned (last : Bool) (goal : Found) (s : List ℕ) (p : ℕ) (found : Found) : Type 0 where
+pub record Scanned (last : Bool) (goal : Option ℕ) (s : List ℕ) (p : ℕ) (found : Option ℕ) : Type 0 where
   pub cur : Quantifier
   pub left : Formulas
   pub bytes : drop p s ≡ encodes left
@@ -129,13 +128,13 @@ pub record Scanned (last : Bool) (goal : Found) (s : List ℕ) (p : ℕ) (found 
   pub within : p ≤ length s
 
 -- a step to the next record
-pub record ScanStep (last : Bool) (goal : Found) (s : List ℕ) (p : ℕ) (found : Found) : Type 0 where
+pub record ScanStep (last : Bool) (goal : Option ℕ) (s : List ℕ) (p : ℕ) (found : Option ℕ) : Type 0 where
   pub room : p + 4 ≤ length s
   pub long : 4 ≤ le2 s p
   pub next : Scanned last goal s (p + le2 s p) (cond (is_quantifier (le2 s (p + 2))) (after last found p) found)
 
 -- the walk begins with the whole formula
-pub scan_begins : (last : Bool) (s : List ℕ) → Exactly s (tree_of s) → Scanned last (found_of (seek last nothing 0 (tree_of s))) s 0 Nothing
+pub scan_begins : (last : Bool) (s : List ℕ) → Exactly s (tree_of s) → Scanned last (found_of (seek last nothing 0 (tree_of s))) s 0 None
 unfolding seek encode
 scan_begins last s x = record {
   cur = nothing;
@@ -147,7 +146,7 @@ scan_begins last s x = record {
   within = omega arith;
 }
 
-scan-apart : (last : Bool) (goal : Found) (s : List ℕ) (p : ℕ) (found : Found) (cur : Quantifier) (f : Formula) (gs : Formulas)
+scan-apart : (last : Bool) (goal : Option ℕ) (s : List ℕ) (p : ℕ) (found : Option ℕ) (cur : Quantifier) (f : Formula) (gs : Formulas)
     → drop p s ≡ encode f ++ encodes gs → Fits tree_levels f → AllFit tree_levels gs → found ≡ found_of cur → goal ≡ found_of (seeks last cur p (more f gs)) → p ≤ length s → ScanStep last goal s p found
 scan-apart last goal s p found cur f gs e w x is finds h =
     let l = label_of f in
@@ -173,7 +172,7 @@ scan-apart last goal s p found cur f gs e w x is finds h =
     }
 
 -- each record is as long as it says, and the walk goes on behind it
-pub scan_step : {last : Bool} {goal : Found} {s : List ℕ} {p : ℕ} {found : Found} → Scanned last goal s p found → p < length s → ScanStep last goal s p found
+pub scan_step : {last : Bool} {goal : Option ℕ} {s : List ℕ} {p : ℕ} {found : Option ℕ} → Scanned last goal s p found → p < length s → ScanStep last goal s p found
 unfolding encode
 scan_step {last} {goal} {s} {p} {found} w h = go w.left w.bytes w.fits w.finds
   where
@@ -182,7 +181,7 @@ scan_step {last} {goal} {s} {p} {found} w h = go w.left w.bytes w.fits w.finds
     go (more f gs) e x finds = scan-apart last goal s p found w.cur f gs e x.0 x.1 w.is finds w.within
 
 -- at the end nothing is left
-pub scan-ends : {last : Bool} {goal : Found} {s : List ℕ} {p : ℕ} {found : Found} → Scanned last goal s p found → length s ≤ p → found ≡ goal
+pub scan-ends : {last : Bool} {goal : Option ℕ} {s : List ℕ} {p : ℕ} {found : Option ℕ} → Scanned last goal s p found → length s ≤ p → found ≡ goal
 unfolding seek encode
 scan-ends {last} {goal} {s} {p} {found} w h = go w.left w.bytes w.fits w.finds
   where
@@ -208,9 +207,9 @@ mutual
   first-stay o b v g p (more f fs) = ap (λ (q : Quantifier). seeks false q (p + length (encode f)) fs) (first-stays o b v g p f) ∙ first-stay o b v g (p + length (encode f)) fs
 
 -- a search for the first quantifier may stop at it
-pub scan-found : {goal : Found} {s : List ℕ} {p o : ℕ} → Scanned false goal s p (At o) → goal ≡ At o
+pub scan-found : {goal : Option ℕ} {s : List ℕ} {p o : ℕ} → Scanned false goal s p (Some o) → goal ≡ Some o
 scan-found {goal} {s} {p} {o} w = go w.cur w.is w.finds
   where
-    go : (cur : Quantifier) → At o ≡ found_of cur → goal ≡ found_of (seeks false cur p w.left) → goal ≡ At o
+    go : (cur : Quantifier) → Some o ≡ found_of cur → goal ≡ found_of (seeks false cur p w.left) → goal ≡ Some o
     go nothing e finds = let z : ◌≡◌ {A = ℕ} 0 1 = cc in absurd (omega arith)
     go (at q b v f) e finds = finds ∙ ap found_of (first-stay q b v f p w.left) ∙ sym e

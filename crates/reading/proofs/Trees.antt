@@ -9,7 +9,7 @@ use Rattle.reading.specs.Bytes.{Bytes}
 use Rattle.reading.specs.Formula.{Formula, Formulas, encode, Fits, AllFit, atom, not, list, quant, window, none, more}
 use Rattle.reading.specs.Reading.{formula_in, formula_of, tree_of, Begins, Exactly, good}
 use Rattle.reading.specs.Answers.{reading}
-use Rattle.reading.specs.declared.Reply.TheVariants.{Done}
+use Rattle.reading.specs.Answers.{Done}
 use Rattle.reading.proofs.Laws.{reads}
 use Rattle.reading.proofs.Accepts.{accepted}
 

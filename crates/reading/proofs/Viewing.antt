@@ -1,7 +1,7 @@
 -- What the record of a formula says, field by field, against the definitions of `Views`. Whoever goes by the kind of a record learns from
 -- `shape-atom` and the like what it stands before. Assumes nothing.
 use mathlib.Core.Path.{◌≡◌, refl, sym, ◌∙◌, ap, ap₂}
-use mathlib.Core.Bool.{Bool, true, false, cond}
+use mathlib.Core.Bool.{Bool, true, false}
 use mathlib.Core.List.{List, ◌++◌}
 use Prim.Native.Nat.{ℕ, ◌+◌, ◌*◌, ◌≤◌, ◌<◌}
 use native.Mathlib.Omega.{arith}
@@ -10,12 +10,16 @@ use lib.ListN.{length, get_or}
 use lib.IntN.{ℤ, pos}
 use Rattle.reading.specs.Limits.{last_variable, variables}
 use Rattle.reading.specs.Bytes.{le2, int4, ints}
-use Rattle.reading.specs.Formula.{Comparison, less, atmost, equal, comparison_no, Formula, atom, not, list, quant, window, count, follow, label_of, encode, record_bytes, field_bytes, Free, IsList}
+use Rattle.reading.specs.Formula.{Comparison, less, atmost, equal, comparison_no, Formula, atom, not, list, quant, window, count, encode, record_bytes, field_bytes, Free, IsList}
 use Rattle.reading.specs.Reading.{Begins}
-use Rattle.reading.specs.Views.{comparison_case, comparison_case_no, shape_of, shape_no, IsAtom, IsWindow, IsQuantifier, numbers_of, members_of, window_of, binder_of}
+use Rattle.reading.specs.Records.{Kind, kind_of, atom_k, not_k, list_k, quant_k, window_k, unknown_k}
+use Rattle.reading.specs.Views.{comparison_case, comparison_case_no, comparison_in, shape_kind, kind_named, shape_of, shape_no, IsAtom, IsWindow, IsQuantifier, numbers_of, members_of, window_of, binder_of}
 use Rattle.reading.specs.declared.Comparison as Code
 use Rattle.reading.specs.declared.Comparison.TheVariants.{Less, AtMost, Equal}
 use Rattle.reading.specs.declared.Shape.{Shape}
+use Rattle.reading.specs.declared.UnknownKind.{UnknownKind}
+use Rattle.std.specs.Prelude.{Result, Ok, Err}
+use Rattle.std.specs.Result.{result_unwrap_or}
 use Rattle.reading.proofs.Laws.{two}
 use Rattle.reading.proofs.Ints.{ints_at}
 use Rattle.reading.proofs.Lengths.{list-long, four-long, begins-long}
@@ -23,26 +27,42 @@ use Rattle.reading.proofs.Walking.{formula_kind, kind-is, atom-is, window-is, li
 
 -- ---- the kind
 
--- the kind of each number
-abbrev pub shape_by : ℕ → Shape
-shape_by k =
-    cond (eqb k 1) (Shape.Atom Less) (cond (eqb k 2) (Shape.Atom AtMost) (cond (eqb k 3) (Shape.Atom Equal)
-    (cond (eqb k 4) Shape.Not (cond (eqb k 5) (Shape.List true) (cond (eqb k 6) (Shape.List false)
-    (cond (eqb k 7) (Shape.Quantifier false) (cond (eqb k 8) (Shape.Quantifier true) Shape.Window)))))))
+-- the kind of a formula's record, from what reading finds
+abbrev shape_back : Kind → Shape
+shape_back (atom_k c) = Shape.Atom (comparison_case c)
+shape_back not_k = Shape.Not
+shape_back (list_k b) = Shape.List b
+shape_back (quant_k b) = Shape.Quantifier b
+shape_back window_k = Shape.Window
+shape_back unknown_k = Shape.Window
 
-shape-back : (f : Formula) → shape_by (formula_kind f) ≡ shape_of f
-shape-back (atom less ns) = refl
-shape-back (atom atmost ns) = refl
-shape-back (atom equal ns) = refl
-shape-back (not f) = refl
-shape-back (list true fs) = refl
-shape-back (list false fs) = refl
-shape-back (quant false v f) = refl
-shape-back (quant true v f) = refl
-shape-back (window v lo hi) = refl
+back : (k : Shape) → shape_back (shape_kind k) ≡ k
+back (Shape.Atom Less) = refl
+back (Shape.Atom AtMost) = refl
+back (Shape.Atom Equal) = refl
+back Shape.Not = refl
+back (Shape.List b) = refl
+back (Shape.Quantifier b) = refl
+back Shape.Window = refl
 
-pub shape_is : {s : List ℕ} {f : Formula} → Begins s f → shape_by (le2 s 2) ≡ shape_of f
-shape_is {s} {f} b = ap shape_by (kind-is b) ∙ shape-back f
+back-named : (r : Result Shape UnknownKind) → result_unwrap_or r Shape.Window ≡ shape_back (kind_named r)
+back-named (Ok k) = sym (back k)
+back-named (Err e) = refl
+
+back-shape : (f : Formula) → shape_back (kind_of (formula_kind f)) ≡ shape_of f
+unfolding kind_of
+back-shape (atom less ns) = refl
+back-shape (atom atmost ns) = refl
+back-shape (atom equal ns) = refl
+back-shape (not f) = refl
+back-shape (list true fs) = refl
+back-shape (list false fs) = refl
+back-shape (quant false v f) = refl
+back-shape (quant true v f) = refl
+back-shape (window v lo hi) = refl
+
+pub shape_is : {s : List ℕ} {f : Formula} {n : ℕ} (r : Result Shape UnknownKind) → Begins s f → kind_named r ≡ kind_of n → n ≡ le2 s 2 → result_unwrap_or r Shape.Window ≡ shape_of f
+shape_is {s} {f} r b e n = back-named r ∙ ap shape_back (e ∙ ap kind_of (n ∙ kind-is b)) ∙ back-shape f
 
 -- its number is 01's
 pub shape-number : (f : Formula) → shape_no (shape_of f) ≡ formula_kind f
@@ -59,6 +79,11 @@ case-number less = refl
 case-number atmost = refl
 case-number equal = refl
 
+pub in-number : (c : Code.Comparison) → comparison_case_no c ≡ comparison_no (comparison_in c)
+in-number Less = refl
+in-number AtMost = refl
+in-number Equal = refl
+
 -- ---- the fields
 
 pub begins-four : {s : List ℕ} {f : Formula} → Begins s f → 4 ≤ length s
@@ -71,24 +96,6 @@ row_is f b i = let a = atom-is f b i in (sym (ap numbers_of a.is), a.room)
 -- the coefficient of x
 pub coefficient-is : {s : List ℕ} (f : Formula) (x : ℕ) → Begins s f → IsAtom f → x < variables → (int4 s (4 + 4 * x) ≡ get_or (numbers_of f) x (pos 0)) × (4 + 4 * x + 4 ≤ length s)
 coefficient-is {s} f x b i h = let r = row_is f b i in (sym (ints_at 9 4 x s (omega arith)) ∙ ap (λ (l : List ℤ). get_or l x (pos 0)) r.0, omega (arith, r.1))
-
--- how many formulas follow a record, by its kind
-abbrev pub follow_in : Shape → ℕ → ℕ
-follow_in (Shape.Atom c) n = 0
-follow_in Shape.Not n = 1
-follow_in (Shape.List b) n = n
-follow_in (Shape.Quantifier b) n = 1
-follow_in Shape.Window n = 0
-
-follow-said : (f : Formula) → follow (label_of f) ≡ follow_in (shape_of f) (count (members_of f))
-follow-said (atom c ns) = refl
-follow-said (not f) = refl
-follow-said (list b fs) = refl
-follow-said (quant b v f) = refl
-follow-said (window v lo hi) = refl
-
-pub follow-is : (f : Formula) {k : Shape} → shape_of f ≡ k → follow_in k (count (members_of f)) ≡ follow (label_of f)
-follow-is f e = ap (λ (k : Shape). follow_in k (count (members_of f))) (sym e) ∙ sym (follow-said f)
 
 -- how many members a list has
 pub members-is : {s : List ℕ} (f : Formula) → Begins s f → IsList f → (le2 s 4 ≡ count (members_of f)) × (6 ≤ length s)

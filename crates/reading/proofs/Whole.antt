@@ -1,6 +1,8 @@
 -- 01, 'Answers and their order': what is said of a whole sheet, by what reading its formula says, and that its place lies in the sheet.
 -- Assumes nothing.
-use mathlib.Core.Path.{◌≡◌}
+use mathlib.Core.Path.{◌≡◌, ap}
+use native.Mathlib.Omega.{arith}
+use Rattle.std.specs.Prelude.{Result, Ok, Err}
 use mathlib.Core.List.{List}
 use lib.ListN.{length}
 use Prim.Native.Nat.{ℕ, ◌≤◌, zero-le}
@@ -9,9 +11,8 @@ use mathlib.Core.Bool.{Bool, true, false, cond}
 use Rattle.reading.specs.AnswerNumbers.{long_sheet, bytes_after}
 use Rattle.reading.specs.Formula.{Formula}
 use Rattle.reading.specs.Reading.{Read, formula_in, good, fault}
-use Rattle.reading.specs.Answers.{reply_of, whole_of, reading, answer_of}
-use Rattle.reading.specs.declared.Reply.{Reply}
-use Rattle.reading.specs.declared.Reply.TheVariants.{Done, Refused}
+use Rattle.reading.specs.Answers.{Reply, Done, Refused, told, reply_of, whole_of, reading, answer_of}
+use Rattle.reading.specs.declared.Refused as Code
 use Rattle.reading.proofs.Reading.{Inside, formula-within}
 
 -- a formula that is read to the end: 9 where bytes follow
@@ -48,3 +49,9 @@ place-within limit d s = go (reading limit d s) (reading-within limit d s)
     go : (r : Reply) → Inside (length s) r → (answer_of r).place ≤ length s
     go (Done k) h = zero-le
     go (Refused n p) h = h
+
+-- ---- what the code's answer is, by what it tells
+
+pub told-done : (r : Result ℕ Code.Refused) {k : ℕ} → told r ≡ Done k → r ≡ Ok k
+told-done (Ok n) e = let f : n ≡ _ = cc in ap Ok f
+told-done (Err w) e = let z : ◌≡◌ {A = ℕ} 0 1 = cc in absurd (omega arith)

@@ -1,13 +1,9 @@
 -- The first and the last quantifier of a formula in reading order, and 01's look: the body of the last one as a part of the sheet's bytes.
-use Rattle.std.specs.Prelude.{ℕ, ◌+◌, ◌-◌, ◌≤◌, ◌≡◌, ◌⊎◌, Bool, true, false, cond, List, length, take, drop, ltb, leb}
+use Rattle.std.specs.Prelude.{ℕ, ◌+◌, ◌-◌, ◌≤◌, ◌≡◌, ◌⊎◌, Bool, true, false, cond, List, length, take, drop, ltb, leb, Option, Some, None}
 use Rattle.reading.specs.Limits.{result_bytes, result_levels}
 use Rattle.reading.specs.Formula.{Formula, Formulas, atom, not, list, quant, window, none, more, not_size, list_size, quant_size, encode, Fits}
 use Rattle.reading.specs.Reading.{Read, good, fault, formula_in}
-use Rattle.reading.specs.Answers.{reading}
-use Rattle.reading.specs.declared.Found.{Found}
-use Rattle.reading.specs.declared.Found.TheVariants.{At, Nothing}
-use Rattle.reading.specs.declared.Reply.{Reply}
-use Rattle.reading.specs.declared.Reply.TheVariants.{Done, Refused}
+use Rattle.reading.specs.Answers.{Reply, Done, Refused, reading}
 use Rattle.reading.specs.declared.Part.{Part}
 
 -- a quantifier: the offset of its record, EVERY or SOME, its variable and its body; or none
@@ -58,9 +54,9 @@ abbrev pub AtQuantifier : ℕ → List ℕ → ℕ → Type 0
 AtQuantifier d s p = (f : Formula) × Fits d f × (s ≡ encode f) × QuantifierAt p f
 
 -- what the code answers: the offset of the record
-abbrev pub found_of : Quantifier → Found
-found_of nothing = Nothing
-found_of (at p b v f) = At p
+abbrev pub found_of : Quantifier → Option ℕ
+found_of nothing = None
+found_of (at p b v f) = Some p
 
 -- whether a record's kind is a quantifier's
 unfoldable pub is_quantifier : ℕ → Bool

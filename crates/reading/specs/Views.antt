@@ -1,10 +1,12 @@
 -- What the crates above see of the record that a formula begins with: its kind, and the fields of each kind. They read no byte of a record.
-use Rattle.std.specs.Prelude.{ℕ, ◌+◌, ◌≡◌, List, [], ◌++◌, false, length, drop, ℤ, pos}
+use Rattle.std.specs.Prelude.{ℕ, ◌+◌, ◌≡◌, List, [], ◌++◌, false, length, drop, ℤ, pos, Result, Ok, Err}
 use Rattle.reading.specs.Limits.{tree_levels}
-use Rattle.reading.specs.Formula.{Comparison, less, atmost, equal, Formula, Formulas, atom, not, list, quant, window, none, count, list_no, quant_no, encodes, AllFit}
+use Rattle.reading.specs.Formula.{Comparison, less, atmost, equal, Formula, Formulas, atom, not, list, quant, window, none, count, list_no, quant_no, atom_size, not_size, list_size, quant_size, window_size, encodes, AllFit}
+use Rattle.reading.specs.Records.{Kind, atom_k, not_k, list_k, quant_k, window_k, unknown_k}
 use Rattle.reading.specs.declared.Comparison as Code
 use Rattle.reading.specs.declared.Comparison.TheVariants.{Less, AtMost, Equal}
 use Rattle.reading.specs.declared.Shape.{Shape}
+use Rattle.reading.specs.declared.UnknownKind.{UnknownKind}
 use Rattle.reading.specs.declared.Window.{Window}
 use Rattle.reading.specs.declared.Binder.{Binder}
 
@@ -35,6 +37,31 @@ shape_no Shape.Not = 4
 shape_no (Shape.List b) = list_no b
 shape_no (Shape.Quantifier b) = quant_no b
 shape_no Shape.Window = 9
+
+-- how many bytes a record of the kind has
+abbrev pub shape_size : Shape → ℕ
+shape_size (Shape.Atom c) = atom_size
+shape_size Shape.Not = not_size
+shape_size (Shape.List b) = list_size
+shape_size (Shape.Quantifier b) = quant_size
+shape_size Shape.Window = window_size
+
+-- the kind that reading finds
+abbrev pub comparison_in : Code.Comparison → Comparison
+comparison_in Less = less
+comparison_in AtMost = atmost
+comparison_in Equal = equal
+
+abbrev pub shape_kind : Shape → Kind
+shape_kind (Shape.Atom c) = atom_k (comparison_in c)
+shape_kind Shape.Not = not_k
+shape_kind (Shape.List b) = list_k b
+shape_kind (Shape.Quantifier b) = quant_k b
+shape_kind Shape.Window = window_k
+
+abbrev pub kind_named : Result Shape UnknownKind → Kind
+kind_named (Ok shape) = shape_kind shape
+kind_named (Err e) = unknown_k
 
 -- ---- the fields: each is asked for where the formula is of its kind
 

@@ -1,5 +1,5 @@
-// Reading a sheet: the limits, what the calls answer, and the public calls, which take every sheet and write nothing: `read`, `look`,
-// `look_part` and `read_whole`. The other names that are shown ask for something; they are for the crates above, which meet it.
+// Reading a sheet: the limits, what the calls answer, and the public calls, which take every sheet and write nothing: `read`, `look` and
+// `look_part`. The other names that are shown ask for something; they are for the crates above, which meet it.
 #![tactic(auto)]
 
 mod formulas;
@@ -9,16 +9,16 @@ mod records;
 mod views;
 
 ghost use Rattle.std.specs.Prelude.{◌≡◌, ◌+◌};
-ghost use Rattle.reading.specs.Limits.{bytes_of, levels_of};
-ghost use Rattle.reading.specs.Answers.{answer_of, reading};
+ghost use Rattle.reading.specs.Records.{kind_of};
+ghost use Rattle.reading.specs.Answers.{refusal_no};
+ghost use Rattle.reading.specs.Views.{comparison_case_no, shape_size, kind_named};
 ghost use Rattle.reading.specs.Quantifiers.{look, look_part};
 
-pub use formulas::read_whole;
+pub use formulas::read;
 pub use numbers::u16_at;
 pub use quantifiers::{first_quantifier, last_quantifier, look_part};
 pub use views::{
-    binder_at, coefficient_at, comparison_number, members_at, past, record_bytes, row_at, shape_at,
-    window_at,
+    binder_at, coefficient_at, members_at, past, record_bytes, row_at, shape_at, window_at,
 };
 
 // A sheet: at most this many bytes, nested at most this deep.
@@ -47,36 +47,39 @@ pub const MOST: u32 = 1073741823;
 // The greatest variable's number.
 pub const LAST_VARIABLE: u16 = 7;
 
-// The number of each answer.
-pub const DONE: usize = 0;
+// Why a sheet, a step or a test is refused, by the numbers of the table of answers, where 0 stands for no refusal.
+#[derive(Clone, Copy, Debug, PartialEq, Eq)]
+pub enum Refusal {
+    SmallBuffer = 1,
+    LongSheet = 2,
+    CutShort = 3,
+    WrongKind = 4,
+    WrongLength = 5,
+    WrongVariable = 6,
+    WrongNumber = 7,
+    DeepNesting = 8,
+    BytesAfter = 9,
+    ManyTerms = 10,
+    BigNumber = 11,
+    LongResult = 12,
+    Quantified = 13,
+    WrongValue = 14,
+}
 
-pub const SMALL_BUFFER: usize = 1;
+impl Refusal {
+    pub fn number(self) -> usize
+        ensures { result ≡ refusal_no self }
+    {
+        self as usize
+    }
+}
 
-pub const LONG_SHEET: usize = 2;
-
-pub const CUT_SHORT: usize = 3;
-
-pub const WRONG_KIND: usize = 4;
-
-pub const WRONG_LENGTH: usize = 5;
-
-pub const WRONG_VARIABLE: usize = 6;
-
-pub const WRONG_NUMBER: usize = 7;
-
-pub const DEEP_NESTING: usize = 8;
-
-pub const BYTES_AFTER: usize = 9;
-
-pub const MANY_TERMS: usize = 10;
-
-pub const BIG_NUMBER: usize = 11;
-
-pub const LONG_RESULT: usize = 12;
-
-pub const QUANTIFIED: usize = 13;
-
-pub const WRONG_VALUE: usize = 14;
+// A refusal and its place.
+#[derive(Clone, Copy, Debug, PartialEq, Eq)]
+pub struct Refused {
+    pub why: Refusal,
+    pub place: usize,
+}
 
 // The length of a record of each kind.
 pub const ATOM_BYTES: usize = 40;
@@ -89,12 +92,20 @@ pub const QUANTIFIER_BYTES: usize = 6;
 
 pub const WINDOW_BYTES: usize = 14;
 
-// sum < 0, sum <= 0, sum = 0.
+// sum < 0, sum <= 0, sum = 0, by the numbers of their kinds.
 #[derive(Clone, Copy)]
 pub enum Comparison {
-    Less,
-    AtMost,
-    Equal,
+    Less = 1,
+    AtMost = 2,
+    Equal = 3,
+}
+
+impl Comparison {
+    pub fn number(self) -> u8
+        ensures { result ≡ comparison_case_no self }
+    {
+        self as u8
+    }
 }
 
 // The kind of a record: a list is ALLOF or not, a quantifier EVERY or not.
@@ -105,6 +116,46 @@ pub enum Shape {
     List(bool),
     Quantifier(bool),
     Window,
+}
+
+// A number that is no kind's.
+#[derive(Clone, Copy)]
+pub struct UnknownKind;
+
+impl TryFrom<u16> for Shape {
+    type Error = UnknownKind;
+
+    ghost try_from_gives = { λ kind r. kind_named r ≡ kind_of kind };
+
+    fn try_from(kind: u16) -> Result<Self, UnknownKind> {
+        match kind {
+            1 => Ok(Shape::Atom(Comparison::Less)),
+            2 => Ok(Shape::Atom(Comparison::AtMost)),
+            3 => Ok(Shape::Atom(Comparison::Equal)),
+            4 => Ok(Shape::Not),
+            5 => Ok(Shape::List(true)),
+            6 => Ok(Shape::List(false)),
+            7 => Ok(Shape::Quantifier(false)),
+            8 => Ok(Shape::Quantifier(true)),
+            9 => Ok(Shape::Window),
+            _ => Err(UnknownKind),
+        }
+    }
+}
+
+impl Shape {
+    // How many bytes a record of the kind has.
+    pub fn bytes(self) -> usize
+        ensures { result ≡ shape_size self }
+    {
+        match self {
+            Shape::Atom(_) => ATOM_BYTES,
+            Shape::Not => NOT_BYTES,
+            Shape::List(_) => LIST_BYTES,
+            Shape::Quantifier(_) => QUANTIFIER_BYTES,
+            Shape::Window => WINDOW_BYTES,
+        }
+    }
 }
 
 // A WINDOW: lo <= variable <= hi.
@@ -122,52 +173,11 @@ pub struct Binder {
     pub variable: usize,
 }
 
-// One record: the number of its refusal; or its kind, its length and how many formulas follow it.
-#[derive(Clone, Copy)]
-pub enum Head {
-    Bad(usize),
-    Open(u16, usize, usize),
-}
-
-// A formula: how many bytes it takes; or the number and the place of the refusal.
-#[derive(Clone, Copy)]
-pub enum Reply {
-    Done(usize),
-    Refused(usize, usize),
-}
-
-// The public answer: 0 and 0 where nothing is refused.
-#[derive(Clone, Copy)]
-pub struct Answer {
-    pub number: usize,
-    pub place: usize,
-}
-
-// The offset of a quantifier's record.
-#[derive(Clone, Copy)]
-pub enum Found {
-    At(usize),
-    Nothing,
-}
-
 // A part of the caller's bytes.
 #[derive(Clone, Copy)]
 pub struct Part {
     pub at: usize,
     pub length: usize,
-}
-
-// The number and the place of the answer for a whole sheet.
-pub fn read(s: &[u8], limit: Limit) -> Answer
-    ensures { result ≡ answer_of (reading (bytes_of limit) (levels_of limit) s.now) }
-{
-    match read_whole(s, limit) {
-        Reply::Done(_) => Answer {
-            number: DONE,
-            place: 0,
-        },
-        Reply::Refused(number, place) => Answer { number, place },
-    }
 }
 
 // The body of the last quantifier, as that part of the caller's bytes: empty where there is none, and where the sheet is refused. It is the part

@@ -3,39 +3,17 @@ ghost use Rattle.std.specs.Prelude.{◌≡◌, ◌<◌, get_or, pos};
 ghost use Rattle.reading.specs.Limits.{variables};
 ghost use Rattle.reading.specs.Formula.{count, size, follow, label_of, IsList};
 ghost use Rattle.reading.specs.Reading.{tree_of, Begins};
-ghost use Rattle.reading.specs.Views.{comparison_case_no, shape_of, IsAtom, IsWindow, IsQuantifier, numbers_of, members_of, window_of, binder_of, Follow, Passed};
+ghost use Rattle.reading.specs.Views.{shape_of, IsAtom, IsWindow, IsQuantifier, numbers_of, members_of, window_of, binder_of, Follow, Passed};
 
 use crate::numbers::{int_at, nine, u16_at};
-use crate::{Binder, Comparison, Shape, Window};
-
-// The number of a comparison's kind.
-pub fn comparison_number(c: Comparison) -> u8
-    ensures { result ≡ comparison_case_no c }
-{
-    match c {
-        Comparison::Less => 1,
-        Comparison::AtMost => 2,
-        Comparison::Equal => 3,
-    }
-}
+use crate::{Binder, Shape, Window};
 
 // The kind.
 pub fn shape_at(s: &[u8]) -> Shape
     requires { Begins s.now (tree_of s.now) }
     ensures { result ≡ shape_of (tree_of s.now) }
 {
-    let kind = u16_at(s, 2);
-    match kind {
-        1 => Shape::Atom(Comparison::Less),
-        2 => Shape::Atom(Comparison::AtMost),
-        3 => Shape::Atom(Comparison::Equal),
-        4 => Shape::Not,
-        5 => Shape::List(true),
-        6 => Shape::List(false),
-        7 => Shape::Quantifier(false),
-        8 => Shape::Quantifier(true),
-        _ => Shape::Window,
-    }
+    Shape::try_from(u16_at(s, 2)).unwrap_or(Shape::Window)
 }
 
 // The nine numbers of an atom.
@@ -72,10 +50,11 @@ pub fn window_at(s: &[u8]) -> Window
     requires window { IsWindow (tree_of s.now) }
     ensures { result ≡ window_of (tree_of s.now) }
 {
-    let variable = u16_at(s, 4) as usize;
-    let lo = int_at(s, 6);
-    let hi = int_at(s, 10);
-    Window { variable, lo, hi }
+    Window {
+        variable: u16_at(s, 4) as usize,
+        lo: int_at(s, 6),
+        hi: int_at(s, 10),
+    }
 }
 
 // A quantifier.
@@ -84,16 +63,9 @@ pub fn binder_at(s: &[u8]) -> Binder
     requires quantifier { IsQuantifier (tree_of s.now) }
     ensures { result ≡ binder_of (tree_of s.now) }
 {
-    let variable = u16_at(s, 4) as usize;
-    if u16_at(s, 2) == 8 {
-        return Binder {
-            every: true,
-            variable,
-        };
-    }
     Binder {
-        every: false,
-        variable,
+        every: u16_at(s, 2) == 8,
+        variable: u16_at(s, 4) as usize,
     }
 }
 
@@ -110,13 +82,10 @@ pub fn followers(s: &[u8]) -> usize
     requires { Begins s.now (tree_of s.now) }
     ensures { result ≡ follow (label_of (tree_of s.now)) }
 {
-    let shape = shape_at(s);
-    match shape {
-        Shape::Atom(_) => 0,
-        Shape::Not => 1,
+    match shape_at(s) {
+        Shape::Atom(_) | Shape::Window => 0,
+        Shape::Not | Shape::Quantifier(_) => 1,
         Shape::List(_) => members_at(s),
-        Shape::Quantifier(_) => 1,
-        Shape::Window => 0,
     }
 }
 

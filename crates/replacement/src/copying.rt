@@ -17,7 +17,7 @@ use crate::{Copied, Way, listing};
 use exact::{Outcome, Point, atom_at, negated, single};
 use reading::{
     ATOM_BYTES, Comparison, LIST_BYTES, NOT_BYTES, Shape, WINDOW_BYTES, Window, coefficient_at,
-    comparison_number, members_at, past, row_at, shape_at, window_at,
+    members_at, past, row_at, shape_at, window_at,
 };
 
 // One atom at the point, written at `to` where it stays; used is the length of its source.
@@ -196,7 +196,7 @@ fn leaf(
         writing::paste(out, to, s, 0, ATOM_BYTES);
         return Copied::Kept(ATOM_BYTES, to + ATOM_BYTES);
     }
-    literal(comparison_number(c), row_at(s), neg, q, out, to)
+    literal(c.number(), row_at(s), neg, q, out, to)
 }
 
 // The formula at the start of s, under NOT or not, at the point q, written from `to` on. A quantifier is never met.

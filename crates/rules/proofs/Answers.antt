@@ -18,8 +18,8 @@ use Rattle.reading.specs.Formula.{Formula, encode, Fits, Free}
 use Rattle.reading.specs.Reading.{good, formula_in}
 use Rattle.reading.specs.Answers.{reading}
 use Rattle.reading.specs.Quantifiers.{Quantifier, nothing, at, first_in, QuantifierAt, AtQuantifier}
-use Rattle.reading.specs.declared.Reply.{Reply}
-use Rattle.reading.specs.declared.Reply.TheVariants.{Done, Refused}
+use Rattle.reading.specs.Answers.{Reply}
+use Rattle.reading.specs.Answers.{Done, Refused}
 use Rattle.reading.proofs.Laws.{reads}
 use Rattle.reading.proofs.Accepts.{accepted, accepts}
 use Rattle.reading.proofs.Trees.{encode_one}

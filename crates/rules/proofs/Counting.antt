@@ -12,8 +12,8 @@ use Rattle.reading.specs.AnswerNumbers.{many_terms, big_number, long_result, don
 use Rattle.reading.specs.Formula.{Formula, Formulas, atom, not, list, quant, window, none, more, encode, encodes}
 use Rattle.reading.specs.Reading.{Read, good, fault, formula_in}
 use Rattle.reading.specs.Answers.{reading}
-use Rattle.reading.specs.declared.Reply.{Reply}
-use Rattle.reading.specs.declared.Reply.TheVariants.{Done, Refused}
+use Rattle.reading.specs.Answers.{Reply}
+use Rattle.reading.specs.Answers.{Done, Refused}
 use Rattle.reading.specs.Quantifiers.{Quantifier, nothing, at, last_in}
 use Rattle.reading.proofs.Lengths.{not-long, list-long, quant-long, more-long}
 use Rattle.reading.proofs.Places.{nothing-free}

@@ -14,8 +14,8 @@ use Rattle.reading.specs.Formula.{Formula}
 use Rattle.reading.specs.Reading.{Read, formula_in}
 use Rattle.reading.specs.Answers.{reading}
 use Rattle.reading.specs.Quantifiers.{part_in, look_within}
-use Rattle.reading.specs.declared.Reply.{Reply}
-use Rattle.reading.specs.declared.Reply.TheVariants.{Done}
+use Rattle.reading.specs.Answers.{Reply}
+use Rattle.reading.specs.Answers.{Done}
 use Rattle.reading.proofs.OtherLimits.{Older, older, stored}
 use Rattle.rules.specs.Eliminate.{Result, refused, by_reading, eliminate_within}
 use Rattle.rules.specs.Test.{refused_test, by_test, tested_within}

@@ -18,8 +18,8 @@ use Rattle.reading.specs.Records.{kind_of, sized, in_m, all_m, by_kind, head}
 use Rattle.reading.specs.Reading.{Read, good, fault, formulas_in, formula_in}
 use Rattle.reading.specs.Answers.{reading}
 use Rattle.reading.specs.Quantifiers.{seek}
-use Rattle.reading.specs.declared.Reply.{Reply}
-use Rattle.reading.specs.declared.Reply.TheVariants.{Done, Refused}
+use Rattle.reading.specs.Answers.{Reply}
+use Rattle.reading.specs.Answers.{Done, Refused}
 use Rattle.exact.specs.Numbers.{all_in, same_row, minus, single}
 use Rattle.exact.specs.Divisor.{gcd_of, gcd_from, gcds, quots, reduced}
 use Rattle.exact.specs.Terms.{left_at, term_at, term_of, bound_of, mid_at, mid_of, midpoint}

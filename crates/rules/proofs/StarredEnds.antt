@@ -11,8 +11,8 @@ use Rattle.reading.specs.Limits.{sheet_bytes, sheet_levels, result_bytes, result
 use Rattle.reading.specs.Formula.{Formula, encode, Fits}
 use Rattle.reading.specs.Reading.{good, formula_in}
 use Rattle.reading.specs.Answers.{reading}
-use Rattle.reading.specs.declared.Reply.{Reply}
-use Rattle.reading.specs.declared.Reply.TheVariants.{Done, Refused}
+use Rattle.reading.specs.Answers.{Reply}
+use Rattle.reading.specs.Answers.{Done, Refused}
 use Rattle.reading.proofs.Laws.{reads}
 use Rattle.reading.proofs.Trees.{encode_one}
 use Rattle.reading.proofs.Refusals.{ReplyNumbered, reading-numbered}

@@ -7,8 +7,8 @@ use Rattle.reading.specs.Formula.{Formula}
 use Rattle.reading.specs.Reading.{Read, good, fault, formula_in}
 use Rattle.reading.specs.Answers.{reading}
 use Rattle.reading.specs.Quantifiers.{Quantifier, nothing, at, last_in}
-use Rattle.reading.specs.declared.Reply.{Reply}
-use Rattle.reading.specs.declared.Reply.TheVariants.{Done, Refused}
+use Rattle.reading.specs.Answers.{Reply}
+use Rattle.reading.specs.Answers.{Done, Refused}
 use Rattle.rules.specs.Points.{terms}
 use Rattle.rules.specs.Steps.{step, refusal, quantifiers}
 

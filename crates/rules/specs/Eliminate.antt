@@ -7,8 +7,8 @@ use Rattle.reading.specs.AnswerNumbers.{done, small_buffer, long_result}
 use Rattle.reading.specs.Formula.{Formula, encode}
 use Rattle.reading.specs.Reading.{Read, good, fault, formula_in}
 use Rattle.reading.specs.Answers.{reading}
-use Rattle.reading.specs.declared.Reply.TheVariants.{Done, Refused}
-use Rattle.reading.specs.declared.Reply.{Reply}
+use Rattle.reading.specs.Answers.{Done, Refused}
+use Rattle.reading.specs.Answers.{Reply}
 use Rattle.exact.specs.Atoms.{nowhere}
 use Rattle.rules.specs.Pushing.{push}
 use Rattle.rules.specs.Lists.{Known, decided, unknown, known}

@@ -8,8 +8,8 @@ use Rattle.reading.specs.Formula.{Formula, Formulas, atom, not, list, quant, win
 use Rattle.reading.specs.Reading.{Read, good, fault, formula_in}
 use Rattle.reading.specs.Answers.{reading}
 use Rattle.reading.specs.Quantifiers.{Quantifier, nothing, at, first_in}
-use Rattle.reading.specs.declared.Reply.{Reply}
-use Rattle.reading.specs.declared.Reply.TheVariants.{Done, Refused}
+use Rattle.reading.specs.Answers.{Reply}
+use Rattle.reading.specs.Answers.{Done, Refused}
 use Rattle.exact.specs.Numbers as Numbers
 use Rattle.exact.specs.Numbers.{all_in}
 use Rattle.exact.specs.Atoms.{holds}

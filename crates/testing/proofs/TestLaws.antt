@@ -19,9 +19,9 @@ use Rattle.reading.specs.Reading.{Read, formula_in, tree_of}
 use Rattle.reading.specs.Answers.{reading}
 use Rattle.reading.specs.Quantifiers as Quantifiers
 use Rattle.reading.specs.Quantifiers.{Quantifier, first_in, found_of}
-use Rattle.reading.specs.declared.Reply.{Reply}
-use Rattle.reading.specs.declared.Reply.TheVariants.{Done, Refused}
-use Rattle.reading.specs.declared.Found.TheVariants.{At, Nothing}
+use Rattle.reading.specs.Answers.{Reply}
+use Rattle.reading.specs.Answers.{Done, Refused}
+use Rattle.std.specs.Prelude.{Some, None}
 use Rattle.reading.proofs.Places.{nothing-free}
 use Rattle.reading.proofs.Trees.{tree_is, begins-tree, accepted-read}
 use Rattle.reading.specs.Views.{comparison_case, comparison_case_no, shape_of, IsWindow, numbers_of, members_of, window_of}
@@ -227,10 +227,10 @@ module _ {s : List ℕ} {w : List ℤ} {all holds : Bool} {at left : ℕ} where
 -- ---- what is answered
 
 -- no quantifier was found
-pub none_free : (f : Formula) → found_of (first_in f) ≡ Nothing → Free f
+pub none_free : (f : Formula) → found_of (first_in f) ≡ None → Free f
 none_free f h = (nothing-free false f).0 (go (first_in f) h)
   where
-    go : (q : Quantifier) → found_of q ≡ Nothing → q ≡ Quantifiers.nothing
+    go : (q : Quantifier) → found_of q ≡ None → q ≡ Quantifiers.nothing
     go Quantifiers.nothing h = refl
     go (Quantifiers.at o b v f) h = let z : ◌≡◌ {A = ℕ} 0 1 = cc in absurd (omega arith)
 
@@ -243,25 +243,25 @@ module _ (s : List ℕ) (w : List ℤ) {k : ℕ} (e : reading result_bytes resul
   unfolding tested
   tested-is = ap₂ (λ (r : Reply) (o : Read Formula). by_test r o w) e (accepted-read result_bytes result_levels s (omega arith) ok e)
 
-  pub tested-quantified : {p : ℕ} → found_of (first_in (tree_of s)) ≡ At p → refused_test quantified p ≡ tested s w
+  pub tested-quantified : {p : ℕ} → found_of (first_in (tree_of s)) ≡ Some p → refused_test quantified p ≡ tested s w
   tested-quantified {p} h = sym (tested-is ∙ go (first_in (tree_of s)) h)
     where
-      go : (q : Quantifier) → found_of q ≡ At p → by_quantifier q (by_values w (tree_of s)) ≡ refused_test quantified p
+      go : (q : Quantifier) → found_of q ≡ Some p → by_quantifier q (by_values w (tree_of s)) ≡ refused_test quantified p
       go Quantifiers.nothing h = let z : ◌≡◌ {A = ℕ} 0 1 = cc in absurd (omega arith)
       go (Quantifiers.at o b v f) h = let y : o ≡ p = cc in ap (refused_test quantified) y
 
-  free-test : found_of (first_in (tree_of s)) ≡ Nothing → tested s w ≡ by_values w (tree_of s)
+  free-test : found_of (first_in (tree_of s)) ≡ None → tested s w ≡ by_values w (tree_of s)
   free-test h = tested-is ∙ go (first_in (tree_of s)) h
     where
-      go : (q : Quantifier) → found_of q ≡ Nothing → by_quantifier q (by_values w (tree_of s)) ≡ by_values w (tree_of s)
+      go : (q : Quantifier) → found_of q ≡ None → by_quantifier q (by_values w (tree_of s)) ≡ by_values w (tree_of s)
       go Quantifiers.nothing h = refl
       go (Quantifiers.at o b v f) h = let z : ◌≡◌ {A = ℕ} 0 1 = cc in absurd (omega arith)
 
   abbrev yes-at : Trial
   yes-at = record { number = done; verdict = cond (true_at w (tree_of s)) 1 0; place = 0 }
 
-  pub tested-range : found_of (first_in (tree_of s)) ≡ Nothing → allowed w ≡ false → refused_test wrong_value 0 ≡ tested s w
+  pub tested-range : found_of (first_in (tree_of s)) ≡ None → allowed w ≡ false → refused_test wrong_value 0 ≡ tested s w
   tested-range h b = sym (free-test h ∙ ap (λ (y : Bool). cond {A = Trial} y yes-at (refused_test wrong_value 0)) b)
 
-  pub tested-done : found_of (first_in (tree_of s)) ≡ Nothing → allowed w ≡ true → {v : ℕ} → v ≡ cond (true_at w (tree_of s)) 1 0 → record { number = done; verdict = v; place = 0 } ≡ tested s w
+  pub tested-done : found_of (first_in (tree_of s)) ≡ None → allowed w ≡ true → {v : ℕ} → v ≡ cond (true_at w (tree_of s)) 1 0 → record { number = done; verdict = v; place = 0 } ≡ tested s w
   tested-done h b {v} ev = ap (λ (n : ℕ). record { number = done; verdict = n; place = 0 }) ev ∙ sym (free-test h ∙ ap (λ (y : Bool). cond {A = Trial} y yes-at (refused_test wrong_value 0)) b)

@@ -1,7 +1,7 @@
 // The test of a quantifier-free sheet at eight whole numbers over one denominator, given as nine numbers. It writes nothing.
 #![tactic(auto)]
 
-ghost use Rattle.std.specs.Prelude.{◌≡◌, ◌&&◌, cond, ◌+◌, ◌<◌, leb, nat_abs, ◌+ℤ◌, ◌*ℤ◌};
+ghost use Rattle.std.specs.Prelude.{◌≡◌, ◌&&◌, ◌+◌, ◌<◌, leb, nat_abs, ◌+ℤ◌, ◌*ℤ◌};
 ghost use Rattle.std.specs.Int.Signed.{le_z};
 ghost use Rattle.reading.specs.Limits.{M, variables, most_value};
 ghost use Rattle.reading.specs.Formula.{not_size};
@@ -12,9 +12,8 @@ ghost use Rattle.testing.specs.Testing.{denied_of, holds_of, Testable, trial_of}
 ghost use Rattle.rules.specs.Test.{sum_at, join, allowed, tested};
 
 use reading::{
-    ATOM_BYTES, DONE, Found, LIST_BYTES, Limit, NOT_BYTES, QUANTIFIED, Reply, Shape, WINDOW_BYTES,
-    WRONG_VALUE, Window, comparison_number, first_quantifier, members_at, read_whole, row_at,
-    shape_at, window_at,
+    ATOM_BYTES, LIST_BYTES, Limit, NOT_BYTES, Refusal, Refused, Shape, WINDOW_BYTES, Window,
+    first_quantifier, members_at, read, row_at, shape_at, window_at,
 };
 
 // Whether a formula holds at given fractions, and its length.
@@ -22,14 +21,6 @@ use reading::{
 pub struct Holds {
     pub used: usize,
     pub holds: bool,
-}
-
-// What the test at fractions answers.
-#[derive(Clone, Copy)]
-pub struct Tested {
-    pub number: usize,
-    pub verdict: usize,
-    pub place: usize,
 }
 
 // The values and the denominator of a test lie in -MOST_VALUE..MOST_VALUE.
@@ -123,7 +114,7 @@ fn holds_at(s: &[u8], w: [i64; 9]) -> Holds
     let shape = shape_at(s);
     match shape {
         Shape::Atom(c) => {
-            let b = exact::holds(comparison_number(c), sum(row_at(s), w));
+            let b = exact::holds(c.number(), sum(row_at(s), w));
             Holds {
                 used: ATOM_BYTES,
                 holds: b,
@@ -193,43 +184,22 @@ fn allowed(w: [i64; 9]) -> bool
     0 < q
 }
 
-fn verdict_of(holds: bool) -> usize
-    ensures { result ≡ cond holds 1 0 }
-{
-    if holds { 1 } else { 0 }
-}
-
 // The test: 2 to 9, then 13 at the first quantifier, then 14; else whether the sheet holds at the eight values over the denominator w[8].
-pub fn test(sheet: &[u8], w: [i64; 9]) -> Tested
+pub fn test(sheet: &[u8], w: [i64; 9]) -> Result<bool, Refused>
     ensures { trial_of result ≡ tested sheet.now w }
 {
-    match read_whole(sheet, Limit::Result) {
-        Reply::Refused(number, place) => Tested {
-            number: number,
-            verdict: 3,
-            place: place,
-        },
-        Reply::Done(_) => match first_quantifier(sheet) {
-            Found::At(place) => Tested {
-                number: QUANTIFIED,
-                verdict: 3,
-                place: place,
-            },
-            Found::Nothing => {
-                if allowed(w) {
-                    let h = holds_at(sheet, w);
-                    return Tested {
-                        number: DONE,
-                        verdict: verdict_of(h.holds),
-                        place: 0,
-                    };
-                }
-                Tested {
-                    number: WRONG_VALUE,
-                    verdict: 3,
-                    place: 0,
-                }
-            }
-        },
+    read(sheet, Limit::Result)?;
+    if let Some(place) = first_quantifier(sheet) {
+        return Err(Refused {
+            why: Refusal::Quantified,
+            place,
+        });
     }
+    if !allowed(w) {
+        return Err(Refused {
+            why: Refusal::WrongValue,
+            place: 0,
+        });
+    }
+    Ok(holds_at(sheet, w).holds)
 }

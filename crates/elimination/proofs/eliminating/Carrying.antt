@@ -15,8 +15,7 @@ use Rattle.reading.specs.Bytes.{Bytes, zeros}
 use Rattle.reading.specs.Formula.{Formula, encode, Fits, Free}
 use Rattle.reading.specs.Reading.{Read, good, formula_in, tree_of, Exactly}
 use Rattle.reading.specs.Answers.{reading}
-use Rattle.reading.specs.declared.Reply as Reply
-use Rattle.reading.specs.declared.Reply.TheVariants as Reading
+use Rattle.reading.specs.Answers as Answers
 use Rattle.reading.proofs.Accepts.{accepted}
 use Rattle.reading.proofs.Laws.{reads}
 use Rattle.reading.proofs.Places.{nothing-free}
@@ -179,25 +178,25 @@ pasted s d₀ d a l x =
 
 -- ---- what reading says
 
-pub reading-accepts : (s : List ℕ) (k : ℕ) → Bytes s → reading sheet_bytes sheet_levels s ≡ Reading.Done k → Accepted s
+pub reading-accepts : (s : List ℕ) (k : ℕ) → Bytes s → reading sheet_bytes sheet_levels s ≡ Answers.Done k → Accepted s
 reading-accepts s k ok e =
     let a = accepted sheet_bytes sheet_levels s k ok e in
     let x : Exactly s a.0 = record { bytes = a.2; fits = fits_more a.0 sheet_levels result_levels (omega arith) a.1 } in
     record { exactly = exactly-tree x; levels = subst (Fits sheet_levels) (sym (tree_is (begins x))) a.1; few = a.3 }
 
-pub sheet-accepted : (s a w : List ℕ) (k : ℕ) → reading sheet_bytes sheet_levels s ≡ Reading.Done k → Accepted s → result_bytes ≤ length a → result_bytes ≤ length w
+pub sheet-accepted : (s a w : List ℕ) (k : ℕ) → reading sheet_bytes sheet_levels s ≡ Answers.Done k → Accepted s → result_bytes ≤ length a → result_bytes ≤ length w
     → eliminate s a w ≡ by_run (length s) (eliminated (tree_of s)) a w
 unfolding eliminate
 sheet-accepted s a w k e x l m =
     let f : formula_in sheet_levels s ≡ good (tree_of s) (length (encode (tree_of s))) = ap (formula_in sheet_levels) (x.exactly.bytes ∙ sym (append-nil (encode (tree_of s)))) ∙ reads (tree_of s) sheet_levels [] x.levels in
     ap₂ (λ (b c : Bool). cond (b || c) (refused 1 0 a w) (by_reading (length s) (reading sheet_bytes sheet_levels s) (formula_in sheet_levels s) a w)) (le-ltb (length a) result_bytes l) (le-ltb (length w) result_bytes m)
-    ∙ ap₂ (λ (r : Reply.Reply) (o : Read Formula). by_reading (length s) r o a w) e f
+    ∙ ap₂ (λ (r : Answers.Reply) (o : Read Formula). by_reading (length s) r o a w) e f
 
-pub sheet-refused : (s a w : List ℕ) (n p : ℕ) → reading sheet_bytes sheet_levels s ≡ Reading.Refused n p → result_bytes ≤ length a → result_bytes ≤ length w → eliminate s a w ≡ refused n p a w
+pub sheet-refused : (s a w : List ℕ) (n p : ℕ) → reading sheet_bytes sheet_levels s ≡ Answers.Refused n p → result_bytes ≤ length a → result_bytes ≤ length w → eliminate s a w ≡ refused n p a w
 unfolding eliminate
 sheet-refused s a w n p e l m =
     ap₂ (λ (b c : Bool). cond (b || c) (refused 1 0 a w) (by_reading (length s) (reading sheet_bytes sheet_levels s) (formula_in sheet_levels s) a w)) (le-ltb (length a) result_bytes l) (le-ltb (length w) result_bytes m)
-    ∙ ap (λ (r : Reply.Reply). by_reading (length s) r (formula_in sheet_levels s) a w) e
+    ∙ ap (λ (r : Answers.Reply). by_reading (length s) r (formula_in sheet_levels s) a w) e
 
 -- a buffer that is too short
 pub result-small : (s a w : List ℕ) → length a < result_bytes → eliminate s a w ≡ refused 1 0 a w

@@ -11,8 +11,7 @@ use Rattle.reading.specs.Limits.{sheet_bytes, sheet_levels, result_bytes}
 use Rattle.reading.specs.Formula.{Formula, encode, Free}
 use Rattle.reading.specs.Reading.{Read, good, formula_in, tree_of}
 use Rattle.reading.specs.Answers.{reading}
-use Rattle.reading.specs.declared.Reply as Replies
-use Rattle.reading.specs.declared.Reply.TheVariants as Reading
+use Rattle.reading.specs.Answers as Answers
 use Rattle.reading.proofs.Laws.{reads}
 use Rattle.reading.proofs.Places.{nothing-free}
 use Rattle.rules.specs.Eliminate.{by_run}
@@ -75,7 +74,7 @@ module _ (f : Formula) (t : Tally) (k : ℕ) (a : List ℕ) (u : Tally) (left : 
 pub few-sheet : (s : List ℕ) → Accepted s → 0 + (counts_of (tree_of s)).finished ≤ result_bytes
 few-sheet s x = omega (arith, steps-few (tree_of s), ap length x.exactly.bytes, x.few)
 
-abbrev by : List ℕ → Bool → Bool → Replies.Reply → Read Formula → Counts
+abbrev by : List ℕ → Bool → Bool → Answers.Reply → Read Formula → Counts
 by s x y r f = cond (x || y) uncounted (counts_by r f)
 
 module _ (s a w : List ℕ) where
@@ -89,13 +88,13 @@ module _ (s a w : List ℕ) where
     no-work h = ap₂ (λ (b c : Bool). by s b c (reading sheet_bytes sheet_levels s) (formula_in sheet_levels s)) (le-ltb (length a) result_bytes l) (lt-ltb (length w) result_bytes h)
 
     module _ (j : result_bytes ≤ length w) where
-      pub no-reading : (n p : ℕ) → reading sheet_bytes sheet_levels s ≡ Reading.Refused n p → counted s a w ≡ uncounted
+      pub no-reading : (n p : ℕ) → reading sheet_bytes sheet_levels s ≡ Answers.Refused n p → counted s a w ≡ uncounted
       unfolding counted
       no-reading n p e =
           ap₂ (λ (b c : Bool). by s b c (reading sheet_bytes sheet_levels s) (formula_in sheet_levels s)) (le-ltb (length a) result_bytes l) (le-ltb (length w) result_bytes j)
-          ∙ ap (λ (r : Replies.Reply). counts_by r (formula_in sheet_levels s)) e
+          ∙ ap (λ (r : Answers.Reply). counts_by r (formula_in sheet_levels s)) e
 
-      pub counted-run : (k : ℕ) → reading sheet_bytes sheet_levels s ≡ Reading.Done k → Accepted s → (u : Tally) → CountsAll (tree_of s) untallied u → tallied u ≡ counted s a w
+      pub counted-run : (k : ℕ) → reading sheet_bytes sheet_levels s ≡ Answers.Done k → Accepted s → (u : Tally) → CountsAll (tree_of s) untallied u → tallied u ≡ counted s a w
       unfolding counted
       counted-run k e x u c =
           let f : formula_in sheet_levels s ≡ good (tree_of s) (length (encode (tree_of s))) = ap (formula_in sheet_levels) (x.exactly.bytes ∙ sym (append-nil (encode (tree_of s)))) ∙ reads (tree_of s) sheet_levels [] x.levels in

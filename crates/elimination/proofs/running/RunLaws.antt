@@ -11,8 +11,7 @@ use Rattle.reading.specs.Limits.{result_bytes, result_levels}
 use Rattle.reading.specs.Formula.{Formula, encode, Fits}
 use Rattle.reading.specs.Reading.{Exactly}
 use Rattle.reading.specs.Quantifiers.{Quantifier, nothing, at, found_of, last_in}
-use Rattle.reading.specs.declared.Found.{Found}
-use Rattle.reading.specs.declared.Found.TheVariants.{At, Nothing}
+use Rattle.std.specs.Prelude.{Option, Some, None}
 use Rattle.reading.proofs.Places.{nothing-free}
 use Rattle.reading.proofs.Trees.{tree_is, begins, exactly-tree}
 use Rattle.rules.specs.Steps.{quantifiers, step, refusal, Run, ran, halted, onward, after_step, run, eliminated}
@@ -60,7 +59,7 @@ counted-left c = ap₂ sum c.steps c.terms
 -- ---- before a turn
 
 -- the formula in the buffer is on the way of f, and what was found is its last quantifier
-pub record RunTurn (f : Formula) (n : ℕ) (cur : List ℕ) (found : Found) : Type 0 where
+pub record RunTurn (f : Formula) (n : ℕ) (cur : List ℕ) (found : Option ℕ) : Type 0 where
   pub reached : Reached f n cur
   pub last : found ≡ found_of (last_in (held n cur))
 
@@ -68,11 +67,11 @@ pub record RunTurn (f : Formula) (n : ℕ) (cur : List ℕ) (found : Found) : Ty
 pub run-begins : (n : ℕ) (cur : List ℕ) → Stands n cur → Wide result_levels (held n cur) → Reached (held n cur) n cur
 run-begins n cur s w = record { stands = s; wide = w; same = refl }
 
-at-is : (x : Found) → is_at x ≡ true → x ≡ At (offset_of x)
-at-is (At o) h = refl
-at-is Nothing h = let z : ◌≡◌ {A = ℕ} 0 1 = cc in absurd (omega arith)
+at-is : (x : Option ℕ) → is_at x ≡ true → x ≡ Some (offset_of x)
+at-is (Some o) h = refl
+at-is None h = let z : ◌≡◌ {A = ℕ} 0 1 = cc in absurd (omega arith)
 
-pub run-asks : {f : Formula} {n : ℕ} {cur : List ℕ} {found : Found} → RunTurn f n cur found → is_at found ≡ true → found_of (last_in (held n cur)) ≡ At (offset_of found)
+pub run-asks : {f : Formula} {n : ℕ} {cur : List ℕ} {found : Option ℕ} → RunTurn f n cur found → is_at found ≡ true → found_of (last_in (held n cur)) ≡ Some (offset_of found)
 run-asks {f} {n} {cur} {found} t h = sym t.last ∙ at-is found h
 
 -- ---- a turn
@@ -105,7 +104,7 @@ pub record Next (f : Formula) (before n : ℕ) (cur : List ℕ) : Type 0 where
   pub reached : Reached f n cur
   pub fewer : before ≡ suc (quantifiers (held n cur))
 
-module _ {f : Formula} {n : ℕ} {cur : List ℕ} {found : Found} {room : ℕ} {cur' work work' : List ℕ} {r : Stepped} (t : RunTurn f n cur found) (h : is_at found ≡ true) (s : Steps (held n cur) room cur cur' work work' r) where
+module _ {f : Formula} {n : ℕ} {cur : List ℕ} {found : Option ℕ} {room : ℕ} {cur' work work' : List ℕ} {r : Stepped} (t : RunTurn f n cur found) (h : is_at found ≡ true) (s : Steps (held n cur) room cur cur' work work' r) where
   here : Last (held n cur)
   here = last_of (held n cur) (sym (ap is_at t.last) ∙ h)
 
@@ -195,12 +194,12 @@ none_left : (q : Quantifier) → is_at (found_of q) ≡ false → q ≡ nothing
 none_left nothing h = refl
 none_left (at p b v k) h = let z : ◌≡◌ {A = ℕ} 0 1 = cc in absurd (omega arith)
 
-pub run-finishes : {f : Formula} {n : ℕ} {cur : List ℕ} {found : Found} (room : ℕ) → RunTurn f n cur found → is_at found ≡ false → RanTo f room cur (Ran.Fine n)
+pub run-finishes : {f : Formula} {n : ℕ} {cur : List ℕ} {found : Option ℕ} (room : ℕ) → RunTurn f n cur found → is_at found ≡ false → RanTo f room cur (Ran.Fine n)
 run-finishes {f} {n} {cur} {found} room t h =
     let g = held n cur in
     (g, t.reached.same ∙ run-done g (none_left (last_in g) (sym (ap is_at t.last) ∙ h)), sym (held-long n cur t.reached.stands), t.reached.stands.exactly.bytes)
 
-pub count-ends : {f : Formula} {n : ℕ} {cur : List ℕ} {found : Found} {d₀ m₀ d m : ℕ} → RunTurn f n cur found → is_at found ≡ false → Counting f d₀ m₀ (held n cur) d m
+pub count-ends : {f : Formula} {n : ℕ} {cur : List ℕ} {found : Option ℕ} {d₀ m₀ d m : ℕ} → RunTurn f n cur found → is_at found ≡ false → Counting f d₀ m₀ (held n cur) d m
     → sum d m ≡ together (sum d₀ m₀) (counts_of f)
 count-ends {f} {n} {cur} {found} t h c =
     let g = held n cur in

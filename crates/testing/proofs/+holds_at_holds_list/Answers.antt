@@ -79,7 +79,7 @@ pub holds_at-returns-in-Atom : goal.holds_at-returns-in-Atom
 holds_at-returns-in-Atom t c =
     let kind : shape_of (tree_of c.args.s.now) ≡ Shape.Atom c.in-Atom.c = sym c.shape_at-shape.ensures ∙ c.in-Atom.is in
     holds-atom (tree_of c.args.s.now) tree_levels c.args.w c.requires.begins.fits (kind)
-    (c.holds-b.ensures ∙ ap₂ (λ (i : ℕ) (z : ℤ). holds (comparison_of i) z) c.comparison_number.ensures (rd (ok c.sum.result c.sum.type_inv) ∙ c.sum.ensures ∙ ap (λ (l : List ℤ). sum_at l c.args.w) c.row_at.ensures))
+    (c.holds-b.ensures ∙ ap₂ (λ (i : ℕ) (z : ℤ). holds (comparison_of i) z) c.number.ensures (rd (ok c.sum.result c.sum.type_inv) ∙ c.sum.ensures ∙ ap (λ (l : List ℤ). sum_at l c.args.w) c.row_at.ensures))
 
 pub holds_at-returns-in-Not : goal.holds_at-returns-in-Not
 holds_at-returns-in-Not t c =

@@ -1,11 +1,20 @@
 -- `eliminate_counted`: 1 for a buffer that is too short, then what reading refuses, then the elimination of the sheet that was read; only there is something counted.
-use mathlib.Core.Path.{sym, ◌∙◌, ap, subst}
+use Prim.Native.Nat.{ℕ}
+use Rattle.reading.specs.Limits.{sheet_bytes, sheet_levels}
+use Rattle.reading.specs.Answers.{reading}
+use Rattle.reading.specs.Answers as Answers
+use mathlib.Core.Path.{◌≡◌, sym, ◌∙◌, ap, subst}
 use Rattle.rules.specs.Eliminate.{Result, eliminate}
 use Rattle.elimination.specs.Running.{tallied}
 use Rattle.elimination.specs.Eliminating.{Gives}
 use Rattle.elimination.proofs.eliminating.Carrying.{reading-accepts, sheet-accepted, sheet-refused, result-small, work-small, gives-no}
 use Rattle.elimination.proofs.eliminating.CountLaws.{no_result, no-work, no-reading, counted-run}
 use Rattle.elimination.proofs.eliminating.eliminate_counted.Goals as goal
+use Rattle.elimination.proofs.eliminating.eliminate_counted.Goals.{After-number}
+
+-- what reading refuses, by its number
+was : (c : After-number) → reading sheet_bytes sheet_levels c.args.sheet.now ≡ Answers.Refused c.number.result c.in-Err.r.place
+was c = sym c.in-Err.ensures ∙ ap (λ (n : ℕ). Answers.Refused n c.in-Err.r.place) (sym c.number.ensures)
 
 pub returns-then-res-lt-RESULT_BYTES : goal.returns-then-res-lt-RESULT_BYTES
 returns-then-res-lt-RESULT_BYTES c = let h = c.if-res-lt-RESULT_BYTES.true in (
@@ -21,22 +30,22 @@ returns-then-work-lt-RESULT_BYTES c = let l = c.if-res-lt-RESULT_BYTES.false in
     )
 
 pub accepted-requires : goal.accepted-requires
-accepted-requires c = record { accepted = reading-accepts c.args.sheet.now c.in-Done.field-0 (λ i. (c.shared_slice_known-1.given i).fits) (sym c.read_whole.ensures ∙ c.in-Done.is); result_bytes_in_bounds = (c.if-res-lt-RESULT_BYTES.false, c.if-work-lt-RESULT_BYTES.false) }
+accepted-requires c = record { accepted = reading-accepts c.args.sheet.now c.in-Ok.field-0 (λ i. (c.type_inv.sheet i).fits) (sym c.in-Ok.ensures); result_bytes_in_bounds = (c.if-res-lt-RESULT_BYTES.false, c.if-work-lt-RESULT_BYTES.false) }
 
-pub returns-in-Refused : goal.returns-in-Refused
-returns-in-Refused c = let r = sym c.read_whole.ensures ∙ c.in-Refused.is in
+pub returns-in-Err : goal.returns-in-Err
+returns-in-Err c = let r = was (goal.at.returns-in-Err c).After-number in
     let l = c.if-res-lt-RESULT_BYTES.false in
     let j = c.if-work-lt-RESULT_BYTES.false in (
-      gives-no c.in-Refused.number c.in-Refused.place c.args.res.now c.args.work.now c.counted-in-Refused.result.reply (eliminate c.args.sheet.now c.args.res.now c.args.work.now)
-          (sheet-refused c.args.sheet.now c.args.res.now c.args.work.now c.in-Refused.number c.in-Refused.place r l j) (c.counted-in-Refused.ensures.0 ∙ c.refused-in-Refused.ensures),
-      ap tallied (c.counted-in-Refused.ensures.1 ∙ c.nothing-in-Refused.ensures) ∙ sym (no-reading c.args.sheet.now c.args.res.now c.args.work.now l j c.in-Refused.number c.in-Refused.place r),
+      gives-no c.number.result c.in-Err.r.place c.args.res.now c.args.work.now c.counted-in-Err.result.reply (eliminate c.args.sheet.now c.args.res.now c.args.work.now)
+          (sheet-refused c.args.sheet.now c.args.res.now c.args.work.now c.number.result c.in-Err.r.place r l j) (c.counted-in-Err.ensures.0 ∙ c.refused-in-Err.ensures),
+      ap tallied (c.counted-in-Err.ensures.1 ∙ c.nothing-in-Err.ensures) ∙ sym (no-reading c.args.sheet.now c.args.res.now c.args.work.now l j c.number.result c.in-Err.r.place r),
     )
 
-pub returns-in-Done : goal.returns-in-Done
-returns-in-Done c = let r = sym c.read_whole.ensures ∙ c.in-Done.is in
-    let x = reading-accepts c.args.sheet.now c.in-Done.field-0 (λ i. (c.shared_slice_known-1.given i).fits) r in
+pub returns-in-Ok : goal.returns-in-Ok
+returns-in-Ok c = let r = sym c.in-Ok.ensures in
+    let x = reading-accepts c.args.sheet.now c.in-Ok.field-0 (λ i. (c.type_inv.sheet i).fits) r in
     let l = c.if-res-lt-RESULT_BYTES.false in
     let j = c.if-work-lt-RESULT_BYTES.false in (
-      subst (λ (o : Result). Gives o c.accepted.result.reply c.accepted.new.res c.accepted.new.work) (sym (sheet-accepted c.args.sheet.now c.args.res.now c.args.work.now c.in-Done.field-0 r x l j)) c.accepted.ensures.0,
-      counted-run c.args.sheet.now c.args.res.now c.args.work.now l j c.in-Done.field-0 r x c.accepted.result.tally c.accepted.ensures.1,
+      subst (λ (o : Result). Gives o c.accepted.result.reply c.accepted.new.res c.accepted.new.work) (sym (sheet-accepted c.args.sheet.now c.args.res.now c.args.work.now c.in-Ok.field-0 r x l j)) c.accepted.ensures.0,
+      counted-run c.args.sheet.now c.args.res.now c.args.work.now l j c.in-Ok.field-0 r x c.accepted.result.tally c.accepted.ensures.1,
     )

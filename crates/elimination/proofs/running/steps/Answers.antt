@@ -6,7 +6,7 @@ use mathlib.Core.Bool.{true}
 use native.Mathlib.Omega.{arith}
 use lib.ListN.{length}
 use lib.Seq.{length-take-le}
-use Rattle.reading.specs.declared.Found.TheVariants.{At}
+use Rattle.std.specs.Prelude.{Some}
 use Rattle.rules.specs.Steps.{quantifiers}
 use Rattle.rules.specs.Counts.{larger}
 use Rattle.elimination.specs.Stepping.{held}
@@ -58,7 +58,7 @@ pub loop-left-init : goal.loop-left-init
 loop-left-init c = (record { reached = run-begins c.args.len c.args.cur.now c.requires.stands c.requires.wide; last = c.last_quantifier-found.ensures }, c.is_at-left.ensures, refl, refl, refl, refl, refl, record { steps = refl; terms = refl })
 
 pub one_step-u-requires : goal.one_step-u-requires
-one_step-u-requires c = let i = c.loop-left.invariant in record { stands = i.0.reached.stands; result_bytes_in_bounds = omega (arith, i.5, c.requires.result_bytes_in_bounds); cur_value = run-asks i.0 (met (goal.at.one_step-u-requires c).In-loop-left) ∙ ap At (sym c.offset_of-o.ensures) }
+one_step-u-requires c = let i = c.loop-left.invariant in record { stands = i.0.reached.stands; result_bytes_in_bounds = omega (arith, i.5, c.requires.result_bytes_in_bounds); cur_value = run-asks i.0 (met (goal.at.one_step-u-requires c).In-loop-left) ∙ ap Some (sym c.offset_of-o.ensures) }
 
 pub shape_of-cur-in-Short : goal.shape_of-cur-in-Short
 shape_of-cur-in-Short c = long (goal.at.shape_of-cur-in-Short c).After-one_step-u ∙ c.loop-left.invariant.4

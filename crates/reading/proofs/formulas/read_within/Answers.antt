@@ -1,7 +1,8 @@
--- `read_within`: 2 before the formula is read, 9 after it, and between them what reading the formula says.
-use mathlib.Core.Path.{sym, ◌∙◌}
+-- 2 before the formula is read, 9 after it, and between them what reading the formula says.
+use mathlib.Core.Path.{sym}
 use lib.ListN.{length}
 use borrow.Author.Tests.{lt-ltb, le-ltb}
+use Rattle.std.proofs.lemmas.Result.{err_from_is_err_and}
 use Rattle.reading.specs.Reading.{formula_in}
 use Rattle.reading.specs.Answers.{reading}
 use Rattle.reading.proofs.Whole.{whole-done, whole-refused}
@@ -11,17 +12,17 @@ pub returns-then-bytes-s : goal.returns-then-bytes-s
 unfolding reading
 returns-then-bytes-s c = simp (lt-ltb _ _ c.if-bytes-s.true)
 
-pub returns-then-k-s : goal.returns-then-k-s
+pub returns-in_err-used : goal.returns-in_err-used
 unfolding reading
-returns-then-k-s c = let a = c.args in
-    simp (le-ltb _ _ c.if-bytes-s.false, whole-done (length a.s.now) c.in-Done.k (formula_in a.levels a.s.now) (sym c.formula_at.ensures ∙ c.in-Done.is), lt-ltb _ _ c.if-k-s.true)
+returns-in_err-used c = let a = c.args in let p = err_from_is_err_and c.from_residual.result c.from_residual.ensures.1 in
+    rw (p.1, p.2, le-ltb _ _ c.if-bytes-s.false) (sym (whole-refused (length a.s.now) _ _ (formula_in a.levels a.s.now) (sym c.in_err-used.ensures)))
 
-pub returns-in-Refused : goal.returns-in-Refused
+pub returns-then-used-s : goal.returns-then-used-s
 unfolding reading
-returns-in-Refused c = let a = c.args in
-    simp (le-ltb _ _ c.if-bytes-s.false, whole-refused (length a.s.now) c.in-Refused.n c.in-Refused.p (formula_in a.levels a.s.now) (sym c.formula_at.ensures ∙ c.in-Refused.is))
+returns-then-used-s c = let a = c.args in
+    simp (le-ltb _ _ c.if-bytes-s.false, whole-done (length a.s.now) _ (formula_in a.levels a.s.now) (sym c.in_ok-used.ensures), lt-ltb _ _ c.if-used-s.true)
 
-pub returns-else-k-s : goal.returns-else-k-s
+pub returns : goal.returns
 unfolding reading
-returns-else-k-s c = let a = c.args in
-    simp (le-ltb _ _ c.if-bytes-s.false, whole-done (length a.s.now) c.in-Done.k (formula_in a.levels a.s.now) (sym c.formula_at.ensures ∙ c.in-Done.is), le-ltb _ _ c.if-k-s.false)
+returns c = let a = c.args in
+    simp (le-ltb _ _ c.if-bytes-s.false, whole-done (length a.s.now) _ (formula_in a.levels a.s.now) (sym c.in_ok-used.ensures), le-ltb _ _ c.if-used-s.false)

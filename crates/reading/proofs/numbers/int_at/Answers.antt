@@ -1,19 +1,13 @@
--- `int_at`: bits below 2^31 are the number itself, and the others are the number less 2^32.
-use mathlib.Core.Path.{ap, ◌∙◌}
-use mir.Syntax.{w32}
+use mathlib.Core.Path.{◌≡◌, ◌∙◌, ap}
+use Prim.Native.Nat.{◌+◌}
+use native.Mathlib.Omega.{arith}
+use mir.Syntax.{w32, w64}
 use mir.Val.{to_z}
+use mir.ValLaws.{to_z-of_z}
 use Rattle.reading.specs.Bytes.{int4}
-use Rattle.reading.proofs.Signed.{int-low, int-fits, int-back}
 use Rattle.reading.proofs.numbers.int_at.Goals as goal
 
-pub overflow_sub-result : goal.overflow_sub-result
+pub returns : goal.returns
 unfolding int4
-overflow_sub-result c = int-fits c.u32_at-v.result c.u32_at-v.type_inv c.if-v-lt2147483648.false
-
-pub returns-then-v-lt2147483648 : goal.returns-then-v-lt2147483648
-unfolding int4
-returns-then-v-lt2147483648 c = int-low c.u32_at-v.result c.if-v-lt2147483648.true ∙ ap (to_z w32) c.u32_at-v.ensures
-
-pub returns-else-v-lt2147483648 : goal.returns-else-v-lt2147483648
-unfolding int4
-returns-else-v-lt2147483648 c = int-back c.u32_at-v.result c.u32_at-v.type_inv c.if-v-lt2147483648.false ∙ ap (to_z w32) c.u32_at-v.ensures
+returns c = let i3 : c.args.i + 2 + 1 ≡ c.args.i + 3 = omega arith in to_z-of_z w64 c.from.result (record { sfits = c.from.type_inv }) ∙ c.from.ensures
+    ∙ to_z-of_z w32 c.from_le_bytes.result (record { sfits = c.from_le_bytes.type_inv }) ∙ c.from_le_bytes.ensures ∙ ap (to_z w32) (rw i3 (omega arith))

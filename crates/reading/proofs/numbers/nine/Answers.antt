@@ -1,7 +1,4 @@
--- `nine`: after i turns the first i numbers of the array are the atom's, so after nine all are.
 use mathlib.Core.Path.{refl, ◌∙◌}
-use Prim.Native.Nat.{zero-le}
-use native.Mathlib.Omega.{arith}
 use mir.Syntax.{w64}
 use mir.ValLaws.{to_z-of_z}
 use Rattle.reading.proofs.Filling.{fill_none, fill_more}
@@ -9,10 +6,10 @@ use Rattle.reading.proofs.Ints.{nine-done}
 use Rattle.reading.proofs.numbers.nine.Goals as goal
 
 pub loop-i-init : goal.loop-i-init
-loop-i-init c = (zero-le, fill_none _ _ _ refl)
+loop-i-init c = fill_none _ _ _ refl
 
 pub loop-i-preserved : goal.loop-i-preserved
-loop-i-preserved c = (omega (arith, c.loop-i-test.true), fill_more _ _ _ _ c.loop-i-test.true c.loop-i.invariant.1 (to_z-of_z w64 c.int_at-z.result (record { sfits = c.int_at-z.type_inv }) ∙ c.int_at-z.ensures))
+loop-i-preserved c = fill_more _ _ _ _ c.loop-i-test.true c.loop-i.invariant (to_z-of_z w64 c.int_at.result (record { sfits = c.int_at.type_inv }) ∙ c.int_at.ensures)
 
 pub returns : goal.returns
-returns c = nine-done c.args.s.now c.loop-i-test.false c.loop-i.invariant.1
+returns c = nine-done c.args.s.now c.loop-i-test.false c.loop-i.invariant

@@ -1,11 +1,8 @@
--- `nums_ok`: before each turn the answer for all n numbers is the answer for those that are left.
+-- Before each turn the answer for all n numbers is the answer for those that are left.
 use mathlib.Core.Path.{◌≡◌}
-use Prim.Native.Nat.{◌+◌, ◌-◌, ◌*◌, ◌≤◌}
+use Prim.Native.Nat.{◌+◌, ◌-◌, ◌*◌}
 use Rattle.reading.specs.Records.{all_m}
 use Rattle.reading.proofs.numbers.nums_ok.Given as goal
 
 abbrev pub invariant-loop-i : goal.invariant-loop-i
-invariant-loop-i l = (l.i ≤ l.n) × (l.p ≡ l.at + 4 * l.i) × (all_m l.n l.at l.s ≡ all_m (l.n - l.i) l.p l.s)
-
-abbrev pub decreases-loop-i : goal.decreases-loop-i
-decreases-loop-i l = l.n - l.i
+invariant-loop-i l = all_m l.n l.at l.s ≡ all_m (l.n - l.i) (l.at + 4 * l.i) l.s

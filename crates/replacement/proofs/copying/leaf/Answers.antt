@@ -38,9 +38,9 @@ row_at-requires c = record { begins = c.requires.asks.begins; atom = an-atom (go
 pub literal-requires : goal.literal-requires
 literal-requires c = let p = c.requires.asks in
     let f = tree_of c.args.s.now in
-    let h = kind-range c.args.c in record { le_kind = (omega (arith, h, c.comparison_number.ensures), omega (arith, h, c.comparison_number.ensures)); each = subst (Each M) (sym c.row_at.ensures) (numbers-small f p.begins (an-atom (goal.at.literal-requires c).Start)); to_in_bounds = omega (arith, (atom-is f p.begins (an-atom (goal.at.literal-requires c).Start)).long, p.room); ready = p.point }
+    let h = kind-range c.args.c in record { le_kind = (omega (arith, h, c.number.ensures), omega (arith, h, c.number.ensures)); each = subst (Each M) (sym c.row_at.ensures) (numbers-small f p.begins (an-atom (goal.at.literal-requires c).Start)); to_in_bounds = omega (arith, (atom-is f p.begins (an-atom (goal.at.literal-requires c).Start)).long, p.room); ready = p.point }
 
 pub returns : goal.returns
 returns c = let f = tree_of c.args.s.now in
-    retold (spot_of c.args.q) (ap₂ (λ (i : ℕ) (l : List ℤ). push_atom c.args.neg (comparison_of i) l) c.comparison_number.ensures c.row_at.ensures ∙ atom-pushed f c.requires.s_value c.args.neg)
+    retold (spot_of c.args.q) (ap₂ (λ (i : ℕ) (l : List ℤ). push_atom c.args.neg (comparison_of i) l) c.number.ensures c.row_at.ensures ∙ atom-pushed f c.requires.s_value c.args.neg)
     (sym (atom-is f c.requires.asks.begins (an-atom (goal.at.returns c).Start)).long) c.literal.ensures
