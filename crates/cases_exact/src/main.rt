@@ -8,124 +8,68 @@
 ghost use Rattle.std.specs.Prelude.{◌<◌, ◌≤◌, length, IfOk};
 ghost use Rattle.reading.specs.Limits.{M};
 ghost use Rattle.exact.specs.Numbers.{Within, Each};
-ghost use Rattle.exact.specs.Atoms.{Ready};
+ghost use Rattle.exact.specs.Atoms.{Bounded, Ready};
 
-use exact::{Outcome, Point, PointKind, Put, abs, within_all};
+use exact::{Place, Point, Put, abs, within_all};
 use std::io;
 
-// Digits that were read, and where the next byte stands.
-#[derive(Clone, Copy)]
-struct Digits {
-    value: u64,
-    at: usize,
-}
-
-// A number that was read, and where the next byte stands.
-#[derive(Clone, Copy)]
-struct Read {
-    value: i64,
-    at: usize,
-}
-
 // Past the blanks.
-fn skip(s: &[u8], from: usize) -> usize
-    requires { from ≤ length s.now }
-    ensures { (from ≤ result) × (result ≤ length s.now) }
+fn skip(s: &[u8]) -> &[u8]
+    ensures { length result.now ≤ length s.now }
 {
-    let mut at = from;
-    while at < s.len() {
-        let b = s[at];
-        if b > 32 {
-            return at;
-        }
-        at += 1;
-    }
-    at
-}
-
-// The digits from here on, as far as they fit in an i64.
-fn natural(s: &[u8], from: usize) -> Digits
-    requires { from ≤ length s.now }
-    ensures from_le_at { (from ≤ result.at) × (result.at ≤ length s.now) }
-    ensures value_bound { result.value ≤ 9223372036854775807 }
-{
-    let mut at = from;
-    let mut v: u64 = 0;
-    while at < s.len() {
-        let b = s[at];
-        if b < 48 {
-            return Digits { value: v, at: at };
-        }
-        if b > 57 {
-            return Digits { value: v, at: at };
-        }
-        if v > 922337203685477579 {
-            return Digits { value: v, at: at };
-        }
-        v = v * 10 + ((b - 48) as u64);
-        at += 1;
-    }
-    Digits { value: v, at: at }
-}
-
-fn signed(v: u64) -> i64
-    requires { v ≤ 9223372036854775807 }
-    ensures { Within 9223372036854775807 result }
-{
-    v as i64
-}
-
-// A whole number, with a minus or without.
-fn integer(s: &[u8], from: usize) -> Read
-    requires { from ≤ length s.now }
-    ensures from_le_at { (from ≤ result.at) × (result.at ≤ length s.now) }
-    ensures within { Within 9223372036854775807 result.value }
-{
-    let p = skip(s, from);
-    if p < s.len() {
-        let b = s[p];
-        if b == 45 {
-            let w = natural(s, p + 1);
-            let v = signed(w.value);
-            return Read {
-                value: exact::neg(v),
-                at: w.at,
-            };
-        }
-    }
-    let w = natural(s, p);
-    Read {
-        value: signed(w.value),
-        at: w.at,
+    match s.iter().position(|b| *b > 32) {
+        Some(at) => &s[at..],
+        None => &s[s.len()..],
     }
 }
 
-// Fills a row with the numbers from here on.
-fn fill(s: &[u8], from: usize, out: &mut [i64]) -> usize
-    requires from_in_bounds { from ≤ length s.now }
+// The digits that come first, as far as they fit in an i64, and what follows.
+fn natural(s: &[u8]) -> (u64, &[u8])
+    ensures value_bound { result.0 ≤ 9223372036854775807 }
+    ensures rest { length result.1.now ≤ length s.now }
+{
+    let mut value: u64 = 0;
+    for (at, b) in s.iter().enumerate() {
+        if *b < 48 || *b > 57 || value > 922337203685477579 {
+            return (value, &s[at..]);
+        }
+        value = value * 10 + (*b - 48) as u64;
+    }
+    (value, &s[s.len()..])
+}
+
+// A whole number, with a minus or without, and what follows.
+fn integer(s: &[u8]) -> (i64, &[u8])
+    ensures within { Within 9223372036854775807 result.0 }
+    ensures rest { length result.1.now ≤ length s.now }
+{
+    let digits = skip(s);
+    if let Some((45, after)) = digits.split_first() {
+        let (value, rest) = natural(after);
+        return (exact::neg(value as i64), rest);
+    }
+    let (value, rest) = natural(digits);
+    (value as i64, rest)
+}
+
+// Fills a row with the numbers that come first; what follows.
+fn fill<'a>(s: &'a [u8], out: &mut [i64]) -> &'a [u8]
     requires each { Each 9223372036854775807 out.old }
-    ensures lower_bound { (from ≤ result) × (result ≤ length s.now) }
+    ensures rest { length result.now ≤ length s.now }
     ensures each_2 { Each 9223372036854775807 out.new }
 {
-    let mut at = from;
-    let mut i = 0;
-    while i < out.len() {
-        let k = integer(s, at);
-        let v = k.value;
-        out[i] = v;
-        at = k.at;
-        i += 1;
+    let mut rest = s;
+    for x in out.iter_mut() {
+        let (value, after) = integer(rest);
+        *x = value;
+        rest = after;
     }
-    at
-}
-
-fn show(rt: &impl Print, z: i64) -> io::Result<()> {
-    print!(rt; " {z}")
+    rest
 }
 
 fn show_row(rt: &impl Print, s: &[i64]) -> io::Result<()> {
     for z in s {
-        show(rt, *z)?;
+        print!(rt; " {z}")?;
     }
     Ok(())
 }
@@ -134,100 +78,79 @@ fn show_truth(rt: &impl Print, b: bool) -> io::Result<()> {
     print!(rt; "{}", if b { " yes" } else { " no" })
 }
 
-fn case_gcd(rt: &impl Print, s: &[u8], from: usize) -> io::Result<usize>
-    requires { from ≤ length s.now }
-    ensures { IfOk result (λ at. (from ≤ at) × (at ≤ length s.now)) }
+fn case_gcd<'a>(rt: &impl Print, s: &'a [u8]) -> io::Result<&'a [u8]>
+    ensures { IfOk result (λ rest. length rest.now ≤ length s.now) }
 {
-    let a = integer(s, from);
-    let b = integer(s, a.at);
-    let x = a.value;
-    let y = b.value;
+    let (x, rest) = integer(s);
+    let (y, rest) = integer(rest);
     print!(rt; " {}", exact::gcd(abs(x), abs(y)))?;
-    Ok(b.at)
+    Ok(rest)
 }
 
-fn case_row(rt: &impl Print, s: &[u8], from: usize) -> io::Result<usize>
-    requires { from ≤ length s.now }
-    ensures { IfOk result (λ at. (from ≤ at) × (at ≤ length s.now)) }
+fn case_row<'a>(rt: &impl Print, s: &'a [u8]) -> io::Result<&'a [u8]>
+    ensures { IfOk result (λ rest. length rest.now ≤ length s.now) }
 {
     let mut w = [0i64; 9];
-    let at = fill(s, from, &mut w);
+    let rest = fill(s, &mut w);
     show_truth(rt, within_all(&w))?;
     exact::reduce(&mut w);
     show_row(rt, &w)?;
-    Ok(at)
+    Ok(rest)
 }
 
-fn case_same(rt: &impl Print, s: &[u8], from: usize) -> io::Result<usize>
-    requires { from ≤ length s.now }
-    ensures { IfOk result (λ at. (from ≤ at) × (at ≤ length s.now)) }
+fn case_same<'a>(rt: &impl Print, s: &'a [u8]) -> io::Result<&'a [u8]>
+    ensures { IfOk result (λ rest. length rest.now ≤ length s.now) }
 {
     let mut a = [0i64; 9];
     let mut b = [0i64; 9];
-    let p = fill(s, from, &mut a);
-    let at = fill(s, p, &mut b);
+    let rest = fill(s, &mut a);
+    let rest = fill(rest, &mut b);
     show_truth(rt, exact::same_row(&a, &b))?;
-    Ok(at)
+    Ok(rest)
 }
 
-fn case_term(rt: &impl Print, s: &[u8], from: usize) -> io::Result<usize>
-    requires { from ≤ length s.now }
-    ensures { IfOk result (λ at. (from ≤ at) × (at ≤ length s.now)) }
+fn case_term<'a>(rt: &impl Print, s: &'a [u8]) -> io::Result<&'a [u8]>
+    ensures { IfOk result (λ rest. length rest.now ≤ length s.now) }
 {
     let mut ns = [0i64; 9];
-    let k = integer(s, from);
-    let p = k.at;
-    let at = fill(s, p, &mut ns);
-    let v = k.value;
+    let (v, rest) = integer(s);
+    let rest = fill(rest, &mut ns);
     let x = abs(v) as usize;
-    if within_all(&ns) {
-        if x < 8 {
-            let a = ns[x];
-            if a != 0 {
-                let t = exact::term_of(ns, x);
-                show_row(rt, &t)?;
-                return Ok(at);
-            }
-        }
+    if within_all(&ns) && x < 8 && ns[x] != 0 {
+        show_row(rt, &exact::term_of(ns, x))?;
+    } else {
+        print!(rt; " -")?;
     }
-    print!(rt; " -")?;
-    Ok(at)
+    Ok(rest)
 }
 
-fn case_mid(rt: &impl Print, s: &[u8], from: usize) -> io::Result<usize>
-    requires { from ≤ length s.now }
-    ensures { IfOk result (λ at. (from ≤ at) × (at ≤ length s.now)) }
+fn case_mid<'a>(rt: &impl Print, s: &'a [u8]) -> io::Result<&'a [u8]>
+    ensures { IfOk result (λ rest. length rest.now ≤ length s.now) }
 {
     let mut t = [0i64; 10];
     let mut u = [0i64; 10];
-    let p = fill(s, from, &mut t);
-    let at = fill(s, p, &mut u);
-    if within_all(&t) {
-        if within_all(&u) {
-            let m = exact::midpoint(&t, &u);
-            show_row(rt, &m)?;
-            show_truth(rt, within_all(&m))?;
-            return Ok(at);
-        }
+    let rest = fill(s, &mut t);
+    let rest = fill(rest, &mut u);
+    if within_all(&t) && within_all(&u) {
+        let m = exact::midpoint(&t, &u);
+        show_row(rt, &m)?;
+        show_truth(rt, within_all(&m))?;
+    } else {
+        print!(rt; " -")?;
     }
-    print!(rt; " -")?;
-    Ok(at)
+    Ok(rest)
 }
 
-fn point_kind(k: u64) -> PointKind {
+// The place of a point's number; n are the numbers of a fraction.
+fn place_of(k: u64, n: [i64; 10]) -> Place
+    requires { Each M n }
+    ensures { Bounded result }
+{
     match k {
-        0 => PointKind::Below,
-        1 => PointKind::Above,
-        2 => PointKind::Here,
-        _ => PointKind::Nowhere,
-    }
-}
-
-fn show_put(rt: &impl Print, r: Put) -> io::Result<()> {
-    match r.outcome {
-        Outcome::True => print!(rt; " true"),
-        Outcome::False => print!(rt; " false"),
-        Outcome::New => show_row(rt, &r.nums),
+        0 => Place::Below,
+        1 => Place::Above,
+        2 => Place::At(n),
+        _ => Place::Nowhere,
     }
 }
 
@@ -236,86 +159,55 @@ fn show_atom(rt: &impl Print, kind: u8, ns: [i64; 9], q: Point) -> io::Result<()
     requires each { Each M ns }
     requires ready { Ready q }
 {
-    let r = exact::atom_at(kind, ns, q);
-    if r.fits {
-        show_put(rt, r)
-    } else {
-        print!(rt; " large")
+    match exact::atom_at(exact::comparison_of(kind), ns, q) {
+        Put::Decided(v) => print!(rt; " {v}"),
+        Put::New(k) => show_row(rt, &k),
+        Put::Large(_) => print!(rt; " large"),
     }
 }
 
-fn atom_case(
-    rt: &impl Print,
-    kind: u64,
-    place: u64,
-    x: u64,
-    ns: [i64; 9],
-    n: [i64; 10],
-) -> io::Result<()>
-    requires each { Each 9223372036854775807 ns }
-    requires each_2 { Each 9223372036854775807 n }
+fn case_atom<'a>(rt: &impl Print, s: &'a [u8]) -> io::Result<&'a [u8]>
+    ensures { IfOk result (λ rest. length rest.now ≤ length s.now) }
 {
-    if within_all(&ns) {
-        if within_all(&n) {
-            if x < 8 {
-                if kind < 4 {
-                    return show_atom(
-                        rt,
-                        kind as u8,
-                        ns,
-                        Point {
-                            kind: point_kind(place),
-                            x: x as usize,
-                            n: n,
-                        },
-                    );
-                }
-            }
-        }
-    }
-    print!(rt; " -")
-}
-
-fn case_atom(rt: &impl Print, s: &[u8], from: usize) -> io::Result<usize>
-    requires { from ≤ length s.now }
-    ensures { IfOk result (λ at. (from ≤ at) × (at ≤ length s.now)) }
-{
-    let a = integer(s, from);
-    let b = integer(s, a.at);
-    let c = integer(s, b.at);
+    let (kind, rest) = integer(s);
+    let (place, rest) = integer(rest);
+    let (x, rest) = integer(rest);
     let mut ns = [0i64; 9];
     let mut n = [0i64; 10];
-    let p = fill(s, c.at, &mut ns);
-    let at = fill(s, p, &mut n);
-    let x = a.value;
-    let y = b.value;
-    let z = c.value;
-    atom_case(rt, abs(x), abs(y), abs(z), ns, n)?;
-    Ok(at)
+    let rest = fill(rest, &mut ns);
+    let rest = fill(rest, &mut n);
+    if within_all(&ns) && within_all(&n) && abs(x) < 8 && abs(kind) < 4 {
+        let q = Point {
+            x: abs(x) as usize,
+            place: place_of(abs(place), n),
+        };
+        show_atom(rt, abs(kind) as u8, ns, q)?;
+    } else {
+        print!(rt; " -")?;
+    }
+    Ok(rest)
 }
 
-fn one_case(rt: &impl Print, s: &[u8], from: usize) -> io::Result<usize>
-    requires { from < length s.now }
-    ensures { IfOk result (λ at. (from < at) × (at ≤ length s.now)) }
+fn one_case<'a>(rt: &impl Print, letter: u8, s: &'a [u8]) -> io::Result<&'a [u8]>
+    ensures { IfOk result (λ rest. length rest.now ≤ length s.now) }
 {
-    let letter = s[from];
     match letter {
-        71 => case_gcd(rt, s, from + 1),
-        82 => case_row(rt, s, from + 1),
-        83 => case_same(rt, s, from + 1),
-        84 => case_term(rt, s, from + 1),
-        77 => case_mid(rt, s, from + 1),
-        65 => case_atom(rt, s, from + 1),
-        _ => Ok(from + 1),
+        71 => case_gcd(rt, s),
+        82 => case_row(rt, s),
+        83 => case_same(rt, s),
+        84 => case_term(rt, s),
+        77 => case_mid(rt, s),
+        65 => case_atom(rt, s),
+        _ => Ok(s),
     }
 }
 
 fn all_cases(rt: &impl Print, s: &[u8]) -> io::Result<()> {
-    let mut at = skip(s, 0);
-    while at < s.len() {
-        let p = one_case(rt, s, at)?;
+    let mut rest = skip(s);
+    while let Some((letter, after)) = rest.split_first() {
+        let left = one_case(rt, *letter, after)?;
         println!(rt)?;
-        at = skip(s, p);
+        rest = skip(left);
     }
     Ok(())
 }

@@ -9,7 +9,7 @@ use Rattle.rules.specs.Steps.{step, refusal}
 use Rattle.elimination.specs.declared.Stepped.{Stepped}
 use Rattle.rules.specs.Eliminate.{room_bytes}
 use Rattle.replacement.specs.declared.Body.{Body}
-use Rattle.replacement.specs.Gathering.{rows_of, Table}
+use Rattle.replacement.specs.Gathering.{Table}
 use Rattle.replacement.specs.Replacing.{Told}
 
 -- the formula in the first n bytes of a buffer
@@ -52,13 +52,13 @@ pub record Steps (f : Formula) (n : ℕ) (cur₀ cur work₀ work : List ℕ) (r
   pub tried : Tried f cur₀ cur work₀ work r
   pub roomy : is_short r ≡ true → n < room_bytes
 
--- the formula in the first len bytes of cur has its last quantifier at o; y tells of its body, and the table ts holds its n boundary terms
-pub record Poised (len o : ℕ) (every : Bool) (y : Body) (n : ℕ) (cur : List ℕ) (ts : List ℤ) (ms : List ℕ) : Type 0 where
+-- the formula in the first len bytes of cur has its last quantifier at o; y tells of its body, and ts are its boundary terms
+pub record Poised (len o : ℕ) (every : Bool) (y : Body) (cur : List ℕ) (ts : List (List ℤ)) (ms : List Bool) : Type 0 where
   pub body : Formula
   pub last : last_in (held len cur) ≡ at o every y.x body
   pub told : Told body y.x (length (encode body)) ms y
-  pub table : Table ts n
-  pub rows : rows_of n ts ≡ terms y.x body
+  pub table : Table ts
+  pub terms_are : ts ≡ terms y.x body
 
 -- ---- the splice: r bytes of out in place of those from o to e, of a formula of len bytes
 

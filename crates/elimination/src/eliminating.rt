@@ -256,7 +256,7 @@ fn begun(sheet: &[u8], res: &mut [u8], work: &mut [u8], room: &mut [u8]) -> Came
     requires result_bytes_in_bounds { (result_bytes ≤ length res.old) × (result_bytes ≤ length work.old) }
     ensures { Carries (tree_of sheet.now) (length sheet.now) (length room.old) res.old res.new work.old work.new result.carried × CarriedCounts (tree_of sheet.now) untallied res.new result.carried result.tally }
 {
-    writing::paste(res, 0, sheet, 0, sheet.len());
+    writing::paste(res, 0, sheet);
     carried(res, work, room, sheet.len(), sheet.len(), nothing())
 }
 

@@ -6,18 +6,17 @@ ghost use Rattle.elimination.specs.Stepping.{held};
 ghost use Rattle.elimination.specs.Finishing.{Unquantified, FinishesIn, Finishes};
 
 use crate::Finished;
-use exact::{Point, PointKind};
+use exact::{Place, Point};
 use reading::RESULT_BYTES;
-use replacement::{Copied, Way};
+use replacement::{Came, Pass, Way};
 
 // The point of the finishing pass.
 fn no_point() -> Point
     ensures { Ready result × (spot_of result ≡ nowhere) }
 {
     Point {
-        kind: PointKind::Nowhere,
         x: 0,
-        n: [0; 10],
+        place: Place::Nowhere,
     }
 }
 
@@ -27,23 +26,28 @@ fn finish_in(cur: &mut [u8], len: usize, out: &mut [u8]) -> usize
     requires len_in_bounds { 7 * len ≤ length out.old }
     ensures { FinishesIn (held len cur.old) cur.old cur.new result }
 {
-    let way = Way {
-        calm: true,
-        marked: false,
+    let pass = Pass {
+        point: no_point(),
+        way: Way {
+            calm: true,
+            marked: false,
+        },
+        marks: &[],
     };
-    let marks = [0u8; 1];
-    match replacement::copy(&cur[..len], false, way, no_point(), out, 0, &marks) {
-        Copied::Decided(_, v) => {
-            writing::put_list(cur, 0, v, 0);
-            6
-        }
-        Copied::Kept(_, e) => {
-            if e <= RESULT_BYTES {
-                writing::paste(cur, 0, out, 0, e);
+    match pass.copied(&cur[..len], false, out, 0) {
+        Ok(r) => match r.came {
+            Came::Decided(v) => {
+                writing::put_list(cur, 0, v, 0);
+                6
             }
-            e
-        }
-        Copied::Big => 0,
+            Came::Kept(e) => {
+                if e <= RESULT_BYTES {
+                    writing::paste(cur, 0, &out[..e]);
+                }
+                e
+            }
+        },
+        Err(_) => 0,
     }
 }
 

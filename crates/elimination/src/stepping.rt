@@ -8,7 +8,7 @@ ghost use Rattle.elimination.specs.Stepping.{held, Stands, Tried, Steps, Poised,
 
 use crate::{Stepped, Turn};
 use reading::{LIST_BYTES, QUANTIFIER_BYTES, RESULT_BYTES, binder_at};
-use replacement::{Body, Gathered, Made};
+use replacement::{Body, Source, Terms, Unmade};
 
 // Room for the marks of any body.
 const MARKS: usize = 1640;
@@ -34,9 +34,9 @@ fn splice(
     if RESULT_BYTES < end {
         return Stepped::Refused(12);
     }
-    writing::paste(work, 0, cur, e, rest);
-    writing::paste(cur, o, out, 0, r);
-    writing::paste(cur, o + r, work, 0, rest);
+    writing::paste(work, 0, &cur[e..len]);
+    writing::paste(cur, o, &out[..r]);
+    writing::paste(cur, o + r, &work[..rest]);
     Stepped::Fine(end)
 }
 
@@ -52,8 +52,8 @@ fn join(cur: &mut [u8], work: &[u8], rest: usize, o: usize, r: usize) -> Stepped
     if RESULT_BYTES < end {
         return Stepped::Refused(12);
     }
-    writing::paste(cur, o, work, rest, r);
-    writing::paste(cur, o + r, work, 0, rest);
+    writing::paste(cur, o, &work[rest..rest + r]);
+    writing::paste(cur, o + r, &work[..rest]);
     Stepped::Fine(end)
 }
 
@@ -65,32 +65,27 @@ fn step_beside(
     o: usize,
     every: bool,
     body: Body,
-    ts: &[i64],
-    n: usize,
-    marks: &[u8],
+    ts: &[[i64; 10]],
+    marks: &[bool],
 ) -> Stepped
     requires stands { Stands len cur.old }
     requires result_bytes_in_bounds { result_bytes ≤ length work.old }
-    requires poised { Poised len o every body n cur.old ts.now marks.now }
+    requires poised { Poised len o every body cur.old ts.now marks.now }
     ensures { Tried (held len cur.old) cur.old cur.new work.old work.new result }
 {
     let from = o + QUANTIFIER_BYTES;
     let e = from + body.bytes;
     let rest = len - e;
-    writing::paste(work, 0, cur, e, rest);
-    let m = replacement::make(
-        &cur[from..e],
+    writing::paste(work, 0, &cur[e..len]);
+    let source = Source {
+        bytes: &cur[from..e],
         body,
-        ts,
-        n,
-        every,
-        &mut work[rest..RESULT_BYTES],
         marks,
-    );
-    match m {
-        Made::Fine(r) => join(cur, work, rest, o, r),
-        Made::Big => Stepped::Refused(11),
-        Made::Short => Stepped::Short,
+    };
+    match source.made(ts, every, &mut work[rest..RESULT_BYTES]) {
+        Ok(r) => join(cur, work, rest, o, r),
+        Err(Unmade::Big) => Stepped::Refused(11),
+        Err(Unmade::Short) => Stepped::Short,
     }
 }
 
@@ -103,13 +98,12 @@ fn step_apart(
     o: usize,
     every: bool,
     body: Body,
-    ts: &[i64],
-    n: usize,
-    marks: &[u8],
+    ts: &[[i64; 10]],
+    marks: &[bool],
 ) -> Stepped
     requires stands { Stands len cur.old }
     requires result_bytes_in_bounds { result_bytes ≤ length work.old }
-    requires poised { Poised len o every body n cur.old ts.now marks.now }
+    requires poised { Poised len o every body cur.old ts.now marks.now }
     ensures { Steps (held len cur.old) (length room.old) cur.old cur.new work.old work.new result }
 {
     if room.len() < RESULT_BYTES + LIST_BYTES + 7 * body.bytes {
@@ -117,11 +111,15 @@ fn step_apart(
     }
     let from = o + QUANTIFIER_BYTES;
     let e = from + body.bytes;
-    let m = replacement::make(&cur[from..e], body, ts, n, every, room, marks);
-    match m {
-        Made::Fine(r) => splice(cur, work, room, len, o, e, r),
-        Made::Big => Stepped::Refused(11),
-        Made::Short => Stepped::Short,
+    let source = Source {
+        bytes: &cur[from..e],
+        body,
+        marks,
+    };
+    match source.made(ts, every, room) {
+        Ok(r) => splice(cur, work, room, len, o, e, r),
+        Err(Unmade::Big) => Stepped::Refused(11),
+        Err(Unmade::Short) => Stepped::Short,
     }
 }
 
@@ -134,7 +132,7 @@ fn fits_beside(b: usize, n: usize, rest: usize) -> bool
     rest + LIST_BYTES + 7 * b * points <= RESULT_BYTES
 }
 
-// The step at the quantifier at o, with the table of its n boundary terms: in the work buffer, or in the room.
+// The step at the quantifier at o, with its boundary terms ts: in the work buffer, or in the room.
 fn step_with(
     cur: &mut [u8],
     work: &mut [u8],
@@ -143,17 +141,20 @@ fn step_with(
     o: usize,
     every: bool,
     body: Body,
-    ts: &[i64],
-    n: usize,
-    marks: &[u8],
+    ts: &[[i64; 10]],
+    marks: &[bool],
 ) -> Stepped
     requires stands { Stands len cur.old }
     requires result_bytes_in_bounds { result_bytes ≤ length work.old }
-    requires poised { Poised len o every body n cur.old ts.now marks.now }
+    requires poised { Poised len o every body cur.old ts.now marks.now }
     ensures { Steps (held len cur.old) (length room.old) cur.old cur.new work.old work.new result }
 {
-    if fits_beside(body.bytes, n, len - (o + QUANTIFIER_BYTES + body.bytes)) {
-        let r = step_beside(cur, work, len, o, every, body, ts, n, marks);
+    if fits_beside(
+        body.bytes,
+        ts.len(),
+        len - (o + QUANTIFIER_BYTES + body.bytes),
+    ) {
+        let r = step_beside(cur, work, len, o, every, body, ts, marks);
         match r {
             Stepped::Fine(m) => {
                 return Stepped::Fine(m);
@@ -164,7 +165,7 @@ fn step_with(
             Stepped::Short => {}
         }
     }
-    step_apart(cur, work, room, len, o, every, body, ts, n, marks)
+    step_apart(cur, work, room, len, o, every, body, ts, marks)
 }
 
 // The step at the last quantifier, at o, of the formula in the first len bytes of cur.
@@ -176,21 +177,20 @@ pub fn one_step(cur: &mut [u8], work: &mut [u8], room: &mut [u8], len: usize, o:
 {
     let b = binder_at(&cur[o..len]);
     let from = o + QUANTIFIER_BYTES;
-    let mut ts = [0i64; 640];
-    let g = replacement::gather(&cur[from..len], b.variable, &mut ts, 0);
-    match g {
-        Gathered::Full => Turn {
+    let mut ts = Terms::new();
+    match replacement::gather(&cur[from..len], b.variable, &mut ts) {
+        Err(_) => Turn {
             stepped: Stepped::Refused(10),
             terms: 0,
         },
-        Gathered::Fine(used, n) => {
-            let mut marks = [0u8; MARKS];
+        Ok(used) => {
+            let mut marks = [false; MARKS];
             let e = from + used;
-            let body = replacement::body_of(&cur[from..e], b.variable, n, &mut marks);
-            let r = step_with(cur, work, room, len, o, b.every, body, &ts, n, &marks);
+            let body = replacement::body_of(&cur[from..e], b.variable, ts.len(), &mut marks);
+            let r = step_with(cur, work, room, len, o, b.every, body, &ts, &marks);
             Turn {
                 stepped: r,
-                terms: n,
+                terms: ts.len(),
             }
         }
     }

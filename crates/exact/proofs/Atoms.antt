@@ -1,41 +1,38 @@
 -- An atom at a point: what the loop that makes its new sum has done, sizes and lengths, and each way it comes out. Assumes nothing.
 -- ---- the comparison
-use mathlib.Core.Path.{◌≡◌, refl, sym, ◌∙◌, ap, ap₂, subst}
+use mathlib.Core.Path.{◌≡◌, refl, sym, ◌∙◌, ap, subst}
 use mathlib.Core.List.{List}
 use mathlib.Core.Bool.{Bool, true, false, not, cond}
 use Prim.Native.Nat.{ℕ}
 use native.Mathlib.Omega.{arith}
-use lib.Dec.{eqb}
 use borrow.Author.Tests.{eq-eqb, ne_eqb}
 use lib.IntN.{ℤ, pos, ◌+ℤ◌, ◌*ℤ◌}
-use lib.Signed.{lt_z, le_z}
+use lib.Signed.{lt_z}
 use mir.Syntax.{w64}
 use mir.Val.{of_z}
 use lib.ListN.{length}
 use Rattle.reading.specs.Limits.{M}
 use Rattle.reading.specs.Formula.{Comparison, atmost, equal, less}
-use Rattle.exact.specs.Numbers.{at, Each, is_zero}
+use Rattle.reading.specs.Views.{comparison_case, comparison_in}
+use Rattle.exact.specs.Numbers.{at, Each, is_zero, all_in}
 use Rattle.exact.specs.Divisor.{reduced}
 use Rattle.exact.specs.Terms.{left_at}
-use Rattle.exact.specs.Atoms.{holds, no_variable, sure, new, settled, nowhere, below, above, here, point_at, point_of, far_of, atom_at, comparison_of, spot_by, Came, put_of, spot_of, Spot}
-use Rattle.exact.specs.declared.PointKind.{PointKind}
+use Rattle.exact.specs.Atoms.{holds, no_variable, sure, new, settled, nowhere, below, above, here, point_at, point_of, far_of, atom_at, spot_by, Came, put_of, spot_of, Spot}
+use Rattle.exact.specs.declared.Place.{Place}
 use Rattle.exact.specs.declared.Point.{Point}
-use Rattle.exact.specs.declared.Put.{Put}
-use Rattle.exact.specs.declared.PointKind.TheVariants.{Below, Above, Here, Nowhere}
+use Rattle.exact.specs.declared.Put.TheVariants.{Decided, New, Large}
+use Rattle.exact.specs.declared.Place.TheVariants.{Below, Above, At, Nowhere}
 use Rattle.exact.proofs.Sizes.{in-more, in-+, in-*, fits, bits-eqb}
 use Rattle.exact.proofs.Loops.{fill_done, length-tab}
 use Rattle.reading.proofs.Filling.{Filled}
 use Rattle.exact.proofs.Terms.{in_left}
-use Rattle.exact.proofs.Rows.{each-tab, all-each, length-reduced, each-zeros}
+use Rattle.exact.proofs.Rows.{each-tab, length-reduced}
 
-pub holds-1 : (k : ℕ) (c : ℤ) → k ≡ 1 → lt_z c (pos 0) ≡ holds (comparison_of k) c
-holds-1 k c e = sym (ap (λ (a : Bool). holds (cond a less (cond (eqb k 2) atmost equal)) c) (eq-eqb k 1 e))
-
-pub holds-2 : (k : ℕ) (c : ℤ) → (k ≡ 1 → ⊥) → k ≡ 2 → le_z c (pos 0) ≡ holds (comparison_of k) c
-holds-2 k c n e = sym (ap₂ (λ (a b : Bool). holds (cond a less (cond b atmost equal)) c) (ne_eqb k 1 n) (eq-eqb k 2 e))
-
-pub holds-3 : (k : ℕ) (c : ℤ) → (k ≡ 1 → ⊥) → (k ≡ 2 → ⊥) → is_zero c ≡ holds (comparison_of k) c
-holds-3 k c n m = sym (ap₂ (λ (a b : Bool). holds (cond a less (cond b atmost equal)) c) (ne_eqb k 1 n) (ne_eqb k 2 m))
+-- the case of a comparison is that of no other
+pub case-in : (c : Comparison) → comparison_in (comparison_case c) ≡ c
+case-in less = refl
+case-in atmost = refl
+case-in equal = refl
 
 -- ---- decided, or divided
 
@@ -64,12 +61,12 @@ each-point {ns} x {n} h k = each-tab 9 (point_at ns x n) (λ i. in-more (in-+ (i
 -- ---- the kinds of point
 
 -- without x every point leaves the atom as it stands
-pub at-without : (k : PointKind) (x : ℕ) (n : List ℤ) (c : Comparison) (ns : List ℤ) → is_zero (at ns x) ≡ true → atom_at (spot_by k x n) c ns ≡ settled c ns
+pub at-without : (p : Place) (x : ℕ) (c : Comparison) (ns : List ℤ) → is_zero (at ns x) ≡ true → atom_at (spot_by p x) c ns ≡ settled c ns
 unfolding atom_at
-at-without Nowhere x n c ns e = refl
-at-without Below x n c ns e = ap (λ (b : Bool). cond b (settled c ns) (sure (far_of c (not (lt_z (at ns x) (pos 0)))))) e
-at-without Above x n c ns e = ap (λ (b : Bool). cond b (settled c ns) (sure (far_of c (lt_z (at ns x) (pos 0))))) e
-at-without Here x n c ns e = ap (λ (b : Bool). cond b (settled c ns) (settled c (point_of ns x n))) e
+at-without Nowhere x c ns e = refl
+at-without Below x c ns e = ap (λ (b : Bool). cond b (settled c ns) (sure (far_of c (not (lt_z (at ns x) (pos 0)))))) e
+at-without Above x c ns e = ap (λ (b : Bool). cond b (settled c ns) (sure (far_of c (lt_z (at ns x) (pos 0))))) e
+at-without (At n) x c ns e = ap (λ (b : Bool). cond b (settled c ns) (settled c (point_of ns x n))) e
 
 pub at-nowhere : (c : Comparison) (ns : List ℤ) → atom_at nowhere c ns ≡ settled c ns
 unfolding atom_at
@@ -94,9 +91,9 @@ zero_is {ns} x e h = sym (bits-eqb (at ns x) (fits (e.at x) tt)) ∙ eq-eqb (of_
 pub zero-not : {ns : List ℤ} (x : ℕ) → Each M ns → (of_z w64 (at ns x) ≡ 0 → ⊥) → is_zero (at ns x) ≡ false
 zero-not {ns} x e h = sym (bits-eqb (at ns x) (fits (e.at x) tt)) ∙ ne_eqb (of_z w64 (at ns x)) 0 h
 
--- the point's kind is known
-pub at-kind : (q : Point) (k : PointKind) (c : Comparison) (ns : List ℤ) {v : Came} → q.kind ≡ k → atom_at (spot_by k q.x q.n) c ns ≡ v → put_of v ≡ put_of (atom_at (spot_of q) c ns)
-at-kind q k c ns e f = ap put_of (sym f ∙ ap (λ (y : PointKind). atom_at (spot_by y q.x q.n) c ns) (sym e))
+-- the point's place is known
+pub at-place : (q : Point) (p : Place) (c : Comparison) (ns : List ℤ) {v : Came} → q.place ≡ p → atom_at (spot_by p q.x) c ns ≡ v → put_of v ≡ put_of (atom_at (spot_of q) c ns)
+at-place q p c ns e f = ap put_of (sym f ∙ ap (λ (y : Place). atom_at (spot_by y q.x) c ns) (sym e))
 
 -- ---- nine numbers in, nine numbers out; and a fitting atom's numbers lie in −M..M
 
@@ -104,25 +101,51 @@ point-long : (ns : List ℤ) (x : ℕ) (n : List ℤ) → length (point_of ns x 
 unfolding point_of
 point-long ns x n = length-tab 9 (point_at ns x n)
 
-nine-either : (b : Bool) (u v : Came) → length (put_of u).nums ≡ 9 → length (put_of v).nums ≡ 9 → length (put_of (cond b u v)).nums ≡ 9
+-- nine numbers, where they are numbers
+abbrev pub Nine : Came → Type 0
+Nine (sure b) = Unit {0}
+Nine (new ns) = length ns ≡ 9
+
+nine-either : (b : Bool) (u v : Came) → Nine u → Nine v → Nine (cond b u v)
 nine-either true u v h k = h
 nine-either false u v h k = k
 
-settled-nine : (c : Comparison) (ns : List ℤ) → length ns ≡ 9 → length (put_of (settled c ns)).nums ≡ 9
+settled-nine : (c : Comparison) (ns : List ℤ) → length ns ≡ 9 → Nine (settled c ns)
 unfolding settled
-settled-nine c ns h = nine-either (no_variable ns) (sure (holds c (at ns 8))) (new (reduced ns)) refl (length-reduced ns ∙ h)
+settled-nine c ns h = nine-either (no_variable ns) (sure (holds c (at ns 8))) (new (reduced ns)) tt (length-reduced ns ∙ h)
 
-pub atom-nine : (s : Spot) (c : Comparison) (ns : List ℤ) → length ns ≡ 9 → length (put_of (atom_at s c ns)).nums ≡ 9
+pub atom-nine : (s : Spot) (c : Comparison) (ns : List ℤ) → length ns ≡ 9 → Nine (atom_at s c ns)
 unfolding atom_at
 atom-nine nowhere c ns h = settled-nine c ns h
-atom-nine (below x) c ns h = nine-either (is_zero (at ns x)) (settled c ns) (sure (far_of c (not (lt_z (at ns x) (pos 0))))) (settled-nine c ns h) refl
-atom-nine (above x) c ns h = nine-either (is_zero (at ns x)) (settled c ns) (sure (far_of c (lt_z (at ns x) (pos 0)))) (settled-nine c ns h) refl
+atom-nine (below x) c ns h = nine-either (is_zero (at ns x)) (settled c ns) (sure (far_of c (not (lt_z (at ns x) (pos 0))))) (settled-nine c ns h) tt
+atom-nine (above x) c ns h = nine-either (is_zero (at ns x)) (settled c ns) (sure (far_of c (lt_z (at ns x) (pos 0)))) (settled-nine c ns h) tt
 atom-nine (here x n) c ns h =
     nine-either (is_zero (at ns x)) (settled c ns) (settled c (point_of ns x n)) (settled-nine c ns h) (settled-nine c (point_of ns x n) (point-long ns x n))
 
-fitting-each : (o : Came) → (put_of o).fits ≡ true → Each M (put_of o).nums
-fitting-each (sure b) e = each-zeros 9
-fitting-each (new ns) e = all-each M ns e
+-- ---- what an answer of the code says of the atom
 
-pub fits_each : (o : Came) {r : Put} → r ≡ put_of o → r.fits ≡ true → Each M r.nums
-fits_each o {r} e = subst (λ (p : Put). p.fits ≡ true → Each M p.nums) (sym e) (fitting-each o)
+-- decided it is that truth
+pub put-decided : (o : Came) {b : Bool} → put_of o ≡ Decided b → o ≡ sure b
+put-decided (sure v) e = cc
+put-decided (new ns) {b} e = go (all_in M ns) e
+  where
+    go : (t : Bool) → cond t (New ns) (Large ns) ≡ Decided b → new ns ≡ sure b
+    go true e = absurd cc
+    go false e = absurd cc
+
+-- new or large it has those numbers, which lie in −M..M or do not
+pub put-new : (o : Came) {ks : List ℤ} → put_of o ≡ New ks → (o ≡ new ks) × (all_in M ks ≡ true)
+put-new (sure v) e = absurd cc
+put-new (new ns) {ks} e = go (all_in M ns) refl e
+  where
+    go : (t : Bool) → all_in M ns ≡ t → cond t (New ns) (Large ns) ≡ New ks → (new ns ≡ new ks) × (all_in M ks ≡ true)
+    go true h e = let k : ns ≡ ks = cc in (ap new k, sym (ap (all_in M) k) ∙ h)
+    go false h e = absurd cc
+
+pub put-large : (o : Came) {ks : List ℤ} → put_of o ≡ Large ks → (o ≡ new ks) × (all_in M ks ≡ false)
+put-large (sure v) e = absurd cc
+put-large (new ns) {ks} e = go (all_in M ns) refl e
+  where
+    go : (t : Bool) → all_in M ns ≡ t → cond t (New ns) (Large ns) ≡ Large ks → (new ns ≡ new ks) × (all_in M ks ≡ false)
+    go true h e = absurd cc
+    go false h e = let k : ns ≡ ks = cc in (ap new k, sym (ap (all_in M) k) ∙ h)

@@ -21,7 +21,11 @@ use Rattle.exact.specs.Numbers.{at, Within, Each, all_in, is_zero, eq_z, same_ro
 use Rattle.exact.specs.Divisor.{gcd_of, gcd_from, gcds, quots, reduced, divided_by}
 use Rattle.exact.specs.Atoms.{all_zero}
 use Rattle.exact.proofs.Sizes.{quot-exact, rd, fits, in-quot, in-more, in-rd, in-neg}
-use Rattle.exact.proofs.Loops.{all_b, get_or-tab}
+use Rattle.std.specs.List.{list_all, zip}
+use Rattle.std.specs.Ordering.{int_eq}
+use Rattle.std.specs.Cmp.Lexicographic.{pointwise}
+use Rattle.std.proofs.lemmas.Bool.Decides.{same_from_decides, Decides-int_eq}
+use Rattle.exact.proofs.Loops.{get_or-tab}
 use Rattle.exact.proofs.Divisors.{gcd-is, gcd-le}
 
 -- one more number
@@ -158,13 +162,13 @@ reduced-times l = quots-times (gcds l) l (gcds-divides l)
 abbrev pub small : ℕ → ℤ → Bool
 small n z = leb (nat_abs z) n
 
-pub all-is : (n : ℕ) (l : List ℤ) → all_in n l ≡ all_b (small n) l
-unfolding all_in all_b
+pub all-is : (n : ℕ) (l : List ℤ) → all_in n l ≡ list_all (small n) l
+unfolding all_in
 all-is n [] = refl
 all-is n (z ∷ l) = ap (λ (b : Bool). leb (nat_abs z) n && b) (all-is n l)
 
-pub all_zero-is : (l : List ℤ) → all_zero l ≡ all_b is_zero l
-unfolding all_zero all_b
+pub all_zero-is : (l : List ℤ) → all_zero l ≡ list_all is_zero l
+unfolding all_zero
 all_zero-is [] = refl
 all_zero-is (z ∷ l) = ap (λ (b : Bool). is_zero z && b) (all_zero-is l)
 
@@ -207,35 +211,44 @@ eq-same : (a : ℤ) → eq_z a a ≡ true
 eq-same (pos a) = eq-eqb a a refl
 eq-same (negsuc a) = eq-eqb a a refl
 
-eq-not : (a b : ℤ) → (a ≡ b → ⊥) → eq_z a b ≡ false
-eq-not (pos a) (pos b) n = ne_eqb a b (λ e. n (ap pos e))
-eq-not (pos a) (negsuc b) n = refl
-eq-not (negsuc a) (pos b) n = refl
-eq-not (negsuc a) (negsuc b) n = ne_eqb a b (λ e. n (ap negsuc e))
-
 eq_is : (a b : ℤ) → a ≡ b → eq_z a b ≡ true
 eq_is a b e = subst (λ (z : ℤ). eq_z a z ≡ true) e (eq-same a)
-
-same-front : (a b : List ℤ) (i : ℕ) → i < length a → i < length b → (t : Bool) → eq_z (at a i) (at b i) ≡ t → same_row (drop i a) (drop i b) ≡ t && same_row (drop (suc i) a) (drop (suc i) b)
-unfolding same_row
-same-front a b i h k t e =
-    ap₂ same_row (drop-cons a i (pos 0) h) (drop-cons b i (pos 0) k) ∙ ap (λ (c : Bool). c && same_row (drop (suc i) a) (drop (suc i) b)) e
-
-pub same_turn : (a b : List ℤ) (i : ℕ) → i < length a → i < length b → at a i ≡ at b i → same_row (drop (i + 1) a) (drop (i + 1) b) ≡ same_row (drop i a) (drop i b)
-same_turn a b i h k e = ap (λ (m : ℕ). same_row (drop m a) (drop m b)) (add-one i) ∙ sym (same-front a b i h k true (eq_is (at a i) (at b i) e))
-
-pub same_stop : (a b : List ℤ) (i : ℕ) → i < length a → i < length b → (at a i ≡ at b i → ⊥) → false ≡ same_row (drop i a) (drop i b)
-same_stop a b i h k n = sym (same-front a b i h k false (eq-not (at a i) (at b i) n))
-
-pub same_end : (a b : List ℤ) (i : ℕ) → length a ≤ i → length b ≤ i → true ≡ same_row (drop i a) (drop i b)
-unfolding same_row
-same_end a b i h k = sym (ap₂ same_row (drop_of_length-le a h) (drop_of_length-le b k))
 
 eq-same-is : (a b : ℤ) → eq_z a b ≡ true → a ≡ b
 eq-same-is (pos a) (pos b) e = ap pos (eqb-true a b e)
 eq-same-is (pos a) (negsuc b) e = absurd (subst (λ (t : Bool). T (not t)) e tt)
 eq-same-is (negsuc a) (pos b) e = absurd (subst (λ (t : Bool). T (not t)) e tt)
 eq-same-is (negsuc a) (negsuc b) e = ap negsuc (eqb-true a b e)
+
+-- which is what `==` answers of each pair
+same-number : (a b : ℤ) → int_eq a b ≡ eq_z a b
+same-number a b = same_from_decides (int_eq a b) (eq_z a b) (Decides-int_eq a b) (eq-same-is a b, eq_is a b)
+
+-- in whatever way the library compares them: number by number, or pair by pair
+pub same-pointwise : (a b : List ℤ) → pointwise int_eq a b ≡ same_row a b
+unfolding same_row
+same-pointwise [] [] = refl
+same-pointwise [] (y ∷ b) = refl
+same-pointwise (x ∷ a) [] = refl
+same-pointwise (x ∷ a) (y ∷ b) = ap₂ (λ (s t : Bool). s && t) (same-number x y) (same-pointwise a b)
+
+pub same-zip : (a b : List ℤ) → length a ≡ length b → list_all (λ p. int_eq p.0 p.1) (zip a b) ≡ same_row a b
+unfolding same_row
+same-zip [] [] h = refl
+same-zip [] (y ∷ b) h = absurd (omega arith)
+same-zip (x ∷ a) [] h = absurd (omega arith)
+same-zip (x ∷ a) (y ∷ b) h = ap₂ (λ (s t : Bool). s && t) (same-number x y) (same-zip a b (omega arith))
+
+pub not-long : (a b : List ℤ) → (length a ≡ length b → ⊥) → false ≡ same_row a b
+unfolding same_row
+not-long [] [] n = absurd (n refl)
+not-long [] (y ∷ b) n = refl
+not-long (x ∷ a) [] n = refl
+not-long (x ∷ a) (y ∷ b) n = go (eq_z x y) (not-long a b (λ e. n (ap suc e)))
+  where
+    go : (t : Bool) → false ≡ same_row a b → false ≡ t && same_row a b
+    go true e = e
+    go false e = refl
 
 -- the test says what it should
 pub same-is : (a b : List ℤ) → same_row a b ≡ true → a ≡ b

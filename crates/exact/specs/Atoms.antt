@@ -1,17 +1,17 @@
 -- 01, 'Copies', for one atom: at a point it comes out true, false or as one new atom. `put_of` and `spot_of` say what each case of the code's
 -- enums stands for.
-use Rattle.std.specs.Prelude.{ℕ, ◌<◌, Bool, true, false, not, ◌&&◌, cond, List, [], ◌∷◌, eqb, take, replicate, ℤ, pos, ◌+ℤ◌, ◌*ℤ◌}
+use Rattle.std.specs.Prelude.{ℕ, ◌<◌, Bool, true, false, not, ◌&&◌, cond, List, [], ◌∷◌, eqb, take, ℤ, pos, ◌+ℤ◌, ◌*ℤ◌}
 use Rattle.std.specs.Int.Signed.{lt_z, le_z}
 use Rattle.reading.specs.Limits.{M, variables}
 use Rattle.reading.specs.Formula.{Comparison, less, atmost, equal}
 use Rattle.exact.specs.Numbers.{at, tab, Each, is_zero, all_in}
 use Rattle.exact.specs.Divisor.{reduced}
 use Rattle.exact.specs.Terms.{left_at}
-use Rattle.exact.specs.declared.Outcome.TheVariants.{True, False, New}
-use Rattle.exact.specs.declared.PointKind.{PointKind}
-use Rattle.exact.specs.declared.PointKind.TheVariants.{Below, Above, Here, Nowhere}
+use Rattle.exact.specs.declared.Place.{Place}
+use Rattle.exact.specs.declared.Place.TheVariants.{Below, Above, At, Nowhere}
 use Rattle.exact.specs.declared.Point.{Point}
 use Rattle.exact.specs.declared.Put.{Put}
+use Rattle.exact.specs.declared.Put.TheVariants.{Decided, New, Large}
 
 -- the comparison of a number with 0
 abbrev pub holds : Comparison → ℤ → Bool
@@ -77,22 +77,29 @@ fitting (new ns) = all_in M ns
 abbrev pub comparison_of : ℕ → Comparison
 comparison_of k = cond (eqb k 1) less (cond (eqb k 2) atmost equal)
 
--- decided: true or false, with zeros beside it; or new: its nine numbers, and whether they lie in −M..M
+-- decided: true or false; or its nine numbers, which lie in −M..M or do not
 abbrev pub put_of : Came → Put
-put_of (sure b) = record { outcome = cond b True False; fits = true; nums = replicate 9 (pos 0) }
-put_of (new ns) = record { outcome = New; fits = all_in M ns; nums = ns }
+put_of (sure b) = Decided b
+put_of (new ns) = cond (all_in M ns) (New ns) (Large ns)
 
 -- −∞, +∞, the fraction, or none
-abbrev pub spot_by : PointKind → ℕ → List ℤ → Spot
-spot_by Below x n = below x
-spot_by Above x n = above x
-spot_by Here x n = here x n
-spot_by Nowhere x n = nowhere
+abbrev pub spot_by : Place → ℕ → Spot
+spot_by Below x = below x
+spot_by Above x = above x
+spot_by (At n) x = here x n
+spot_by Nowhere x = nowhere
 
 abbrev pub spot_of : Point → Spot
-spot_of q = spot_by q.kind q.x q.n
+spot_of q = spot_by q.place q.x
 
--- a point that the code may be asked about: a variable's number, and ten numbers in −M..M
+-- the numbers of a fraction lie in −M..M
+abbrev pub Bounded : Place → Type 0
+Bounded Below = Unit {0}
+Bounded Above = Unit {0}
+Bounded (At n) = Each M n
+Bounded Nowhere = Unit {0}
+
+-- a point that the code may be asked about: a variable's number, and a place whose numbers lie in −M..M
 pub record Ready (q : Point) : Type 0 where
   pub low : q.x < variables
-  pub nums : Each M q.n
+  pub nums : Bounded q.place

@@ -1,6 +1,6 @@
 -- Rows of whole numbers, without bounds: a row is a list, and what stands past its end is 0, so no law asks for a length. Sizes are
 -- `Within` and `Each`, records, so that the number or the row is inferred from the fact.
-use Rattle.std.specs.Prelude.{ℕ, zero, suc, ◌≤◌, Bool, true, false, ◌&&◌, List, [], ◌∷◌, map, leb, eqb, get_or, set, replicate, ℤ, pos, negsuc, neg_ℤ, nat_abs}
+use Rattle.std.specs.Prelude.{ℕ, zero, suc, ◌≡◌, ◌<◌, ◌≤◌, length, Bool, true, false, ◌&&◌, List, [], ◌∷◌, map, leb, eqb, get_or, set, replicate, ℤ, pos, negsuc, neg_ℤ, nat_abs}
 
 -- number i of a row
 abbrev pub at : List ℤ → ℕ → ℤ
@@ -38,6 +38,11 @@ same_row [] [] = true
 same_row [] (b ∷ l) = false
 same_row (a ∷ k) [] = false
 same_row (a ∷ k) (b ∷ l) = eq_z a b && same_row k l
+
+-- b is a with each number replaced by one that R says of it
+pub record Stepped (R : ℤ → ℤ → Type 0) (a b : List ℤ) : Type 0 where
+  pub long : length b ≡ length a
+  pub each : (i : ℕ) → i < length a → R (at a i) (at b i)
 
 -- each sign turned
 unfoldable pub minus : List ℤ → List ℤ

@@ -1,124 +1,91 @@
 // An atom at a point: it comes out true, false or as one new atom.
 ghost use Rattle.std.specs.Prelude.{◌≡◌, ◌<◌, length};
 ghost use Rattle.reading.specs.Limits.{M, variables};
+ghost use Rattle.reading.specs.Views.{comparison_case, comparison_in};
 ghost use Rattle.exact.specs.Numbers.{Each};
-ghost use Rattle.exact.specs.Atoms.{holds, far_of, comparison_of, put_of, sure, settled, point_of, atom_at, spot_of, Ready};
+ghost use Rattle.exact.specs.Atoms.{holds, far_of, comparison_of, put_of, settled, point_of, atom_at, spot_of, Ready};
 
-use crate::{Outcome, Point, PointKind, Put, number, row, term};
+use crate::{Place, Point, Put, number, row, term};
+use reading::Comparison;
 
-// The comparison of c with 0.
-pub fn holds(kind: u8, c: i64) -> bool
-    ensures { result ≡ holds (comparison_of kind) c }
+// The comparison of each number: LESS of 1, ATMOST of 2, EQUAL of 3 and of every other.
+pub fn comparison_of(kind: u8) -> Comparison
+    ensures { result ≡ comparison_case (comparison_of kind) }
 {
-    if kind == 1 {
-        return c < 0;
+    match kind {
+        1 => Comparison::Less,
+        2 => Comparison::AtMost,
+        _ => Comparison::Equal,
     }
-    if kind == 2 {
-        return c <= 0;
-    }
-    c == 0
 }
 
-// An atom that is true or false.
-fn decided(v: bool) -> Put
-    ensures { result ≡ put_of (sure v) }
+// The comparison of z with 0.
+pub fn holds(c: Comparison, z: i64) -> bool
+    ensures { result ≡ holds (comparison_in c) z }
 {
-    if v {
-        Put {
-            outcome: Outcome::True,
-            fits: true,
-            nums: [0i64; 9],
-        }
-    } else {
-        Put {
-            outcome: Outcome::False,
-            fits: true,
-            nums: [0i64; 9],
-        }
+    match c {
+        Comparison::Less => z < 0,
+        Comparison::AtMost => z <= 0,
+        Comparison::Equal => z == 0,
     }
 }
 
 // An atom whose sum is done: decided where no variable is left, otherwise divided.
-pub fn settled(kind: u8, ns: [i64; 9]) -> Put
+pub fn settled(c: Comparison, ns: [i64; 9]) -> Put
     requires { Each 9223372036854775807 ns }
-    ensures { result ≡ put_of (settled (comparison_of kind) ns) }
+    ensures { result ≡ put_of (settled (comparison_in c) ns) }
 {
     if row::all_zero(&ns[..8]) {
-        let c = ns[8];
-        return decided(holds(kind, c));
+        return Put::Decided(holds(c, ns[8]));
     }
     let mut b = ns;
     row::reduce(&mut b);
     let fits = row::within_all(&b);
-    Put {
-        outcome: Outcome::New,
-        fits: fits,
-        nums: b,
-    }
+    if fits { Put::New(b) } else { Put::Large(b) }
 }
 
 // The atom's sum at the point n/d, not reduced: a·n + d·t.
-pub fn at_point(ns: &[i64], x: usize, n: &[i64]) -> [i64; 9]
-    requires ns_len { (length ns.now ≡ 9) × ((length n.now ≡ 10) × (x < variables)) }
+pub fn at_point(ns: &[i64; 9], x: usize, n: &[i64; 10]) -> [i64; 9]
+    requires x_is_low { x < variables }
     requires each { Each M ns.now }
     requires each_2 { Each M n.now }
     ensures { result ≡ point_of ns.now x n.now }
 {
-    let mut m = [0i64; 9];
     let a = ns[x];
     let d = n[9];
-    let mut i: usize = 0;
-    while i < 9 {
-        let y = n[i];
+    let mut m = [0i64; 9];
+    for i in 0..9 {
         let t = term::left(ns, x, i);
-        let z = number::mul_add(a, y, d, t);
-        m[i] = z;
-        i += 1;
+        let sum = number::mul_add(a, n[i], d, t);
+        m[i] = sum;
     }
     m
 }
 
-// The atom at a fraction.
-fn here(kind: u8, ns: [i64; 9], q: Point) -> Put
-    requires each { Each M ns }
-    requires ready { Ready q }
-    ensures { result ≡ put_of (settled (comparison_of kind) (point_of ns q.x q.n)) }
-{
-    let n = q.n;
-    let x = q.x;
-    let m = at_point(&ns, x, &n);
-    settled(kind, m)
-}
-
 // Whether a comparison holds far out, where the sum falls below all numbers or rises above all.
-fn far(kind: u8, falls: bool) -> bool
-    ensures { result ≡ far_of (comparison_of kind) falls }
+fn far(c: Comparison, falls: bool) -> bool
+    ensures { result ≡ far_of (comparison_in c) falls }
 {
-    if kind == 1 {
-        return falls;
+    match c {
+        Comparison::Less | Comparison::AtMost => falls,
+        Comparison::Equal => false,
     }
-    if kind == 2 {
-        return falls;
-    }
-    false
 }
 
 // The atom at the point. Without the point's variable it keeps its sum.
-pub fn atom_at(kind: u8, ns: [i64; 9], q: Point) -> Put
+pub fn atom_at(c: Comparison, ns: [i64; 9], q: Point) -> Put
     requires each { Each M ns }
     requires ready { Ready q }
-    ensures { result ≡ put_of (atom_at (spot_of q) (comparison_of kind) ns) }
+    ensures { result ≡ put_of (atom_at (spot_of q) (comparison_in c) ns) }
 {
-    let x = q.x;
-    let a = ns[x];
+    let a = ns[q.x];
     if a == 0 {
-        return settled(kind, ns);
+        return settled(c, ns);
     }
-    let place = q.kind;
-    match place {
-        PointKind::Nowhere => settled(kind, ns),
-        PointKind::Here => here(kind, ns, q),
-        PointKind::Below => decided(far(kind, !(a < 0))),
-        PointKind::Above => decided(far(kind, a < 0)),
+    match q.place {
+        Place::Nowhere => settled(c, ns),
+        Place::At(n) => settled(c, at_point(&ns, q.x, &n)),
+        Place::Below => Put::Decided(far(c, !(a < 0))),
+        Place::Above => Put::Decided(far(c, a < 0)),
     }
 }

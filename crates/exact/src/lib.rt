@@ -7,43 +7,35 @@ mod number;
 mod row;
 mod term;
 
-pub use atom::{atom_at, holds};
+pub use atom::{atom_at, comparison_of, holds};
 pub use number::{abs, gcd, neg};
-pub use row::{all_zero, gcd_all, negated, reduce, same_row, single, within_all};
+pub use row::{all_within, all_zero, gcd_all, negated, reduce, same_row, single, within_all};
 pub use term::{bound_of, left, midpoint, term_of};
 
 // M: coefficients, constants, lo and hi lie in -M..M.
 pub const MOST: u64 = reading::MOST as u64;
 
-// How an atom comes out at a point.
-#[derive(Clone, Copy)]
-pub enum Outcome {
-    True,
-    False,
-    New,
-}
-
-// The kind of a point: below all numbers, above all, a fraction, or none (the finishing pass).
-#[derive(Clone, Copy)]
-pub enum PointKind {
+// Where a point lies: below all numbers, above all, at a fraction, which is eight coefficients, a constant and a denominator, or nowhere (the
+// finishing pass).
+#[derive(Clone, Copy, Debug, PartialEq, Eq)]
+pub enum Place {
     Below,
     Above,
-    Here,
+    At([i64; 10]),
     Nowhere,
 }
 
-// A point for the variable x: its kind and, for a fraction, eight coefficients, a constant and a denominator.
-#[derive(Clone, Copy)]
+// A point for the variable x.
+#[derive(Clone, Copy, Debug, PartialEq, Eq)]
 pub struct Point {
-    pub kind: PointKind,
     pub x: usize,
-    pub n: [i64; 10],
+    pub place: Place,
 }
 
-// The outcome of an atom, its nine numbers beside it, and whether these lie in -M..M.
-#[derive(Clone, Copy)]
-pub struct Put {
-    pub outcome: Outcome,
-    pub fits: bool,
-    pub nums: [i64; 9],
+// How an atom comes out at a point: decided, as nine numbers in -M..M, or as nine of which one is larger.
+#[derive(Clone, Copy, Debug, PartialEq, Eq)]
+pub enum Put {
+    Decided(bool),
+    New([i64; 9]),
+    Large([i64; 9]),
 }

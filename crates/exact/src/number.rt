@@ -1,11 +1,11 @@
-// One whole number at a time. Each function says its result in ℤ, without bounds, and asks for sizes at which no step leaves an i64.
+// One whole number at a time. Each function says its result in ℤ, without bounds, and asks for the sizes at which no step leaves an i64.
 ghost use Rattle.std.specs.Prelude.{◌≡◌, ◌<◌, ◌≤◌, pos, nat_abs, neg_ℤ, ◌+ℤ◌, ◌*ℤ◌};
 ghost use Rattle.std.specs.Int.Signed.{quot_z};
 ghost use Rattle.reading.specs.Limits.{M};
 ghost use Rattle.exact.specs.Numbers.{Within};
 ghost use Rattle.exact.specs.Divisor.{gcd_of};
 
-// The greatest common divisor, by Euclid's algorithm.
+// The greatest common divisor, by Euclid's algorithm: a `while`, since it counts no index and no range gives its turns.
 pub fn gcd(a: u64, b: u64) -> u64
     ensures { result ≡ gcd_of a b }
 {
@@ -28,15 +28,9 @@ pub fn neg(x: i64) -> i64
 
 // The size of x.
 pub fn abs(x: i64) -> u64
-    requires { Within 9223372036854775807 x }
     ensures { result ≡ nat_abs x }
 {
-    if x < 0 {
-        let y = neg(x);
-        y as u64
-    } else {
-        x as u64
-    }
+    x.unsigned_abs()
 }
 
 // x over g.

@@ -1,7 +1,9 @@
-// Rows of whole numbers: the loops stand here once, over slices, and serve the nine numbers of an atom and the ten of a term.
-ghost use Rattle.std.specs.Prelude.{◌≡◌, ◌<◌, ◌≤◌, length};
+// Rows of whole numbers: the walks stand here once, over slices, and serve the nine numbers of an atom and the ten of a term. A row is an array or a
+// part of one, with a clause on its sizes, and no type of its own: rows stand in a record that was read, in an atom and in a table of terms, and a
+// type would ask for a copy at each of these borders.
+ghost use Rattle.std.specs.Prelude.{◌≡◌, ℕ, ◌<◌, ◌≤◌, length};
 ghost use Rattle.reading.specs.Limits.{M};
-ghost use Rattle.exact.specs.Numbers.{Each, all_in, same_row, minus, single};
+ghost use Rattle.exact.specs.Numbers.{at, Each, Stepped, all_in, same_row, minus, single};
 ghost use Rattle.exact.specs.Divisor.{gcds, quots, reduced};
 ghost use Rattle.exact.specs.Atoms.{all_zero};
 
@@ -13,33 +15,26 @@ pub fn gcd_all(s: &[i64]) -> u64
     ensures { result ≡ gcds s.now }
 {
     let mut g: u64 = 0;
-    let mut i = 0;
-    while i < s.len() {
-        let x = s[i];
-        let a = number::abs(x);
+    for x in s {
+        let a = x.unsigned_abs();
         if a != 0 {
             g = number::gcd(a, g);
             if g == 1 {
                 return 1;
             }
         }
-        i += 1;
     }
     g
 }
 
-// Each number of a row over g.
-pub fn div_all(s: &mut [i64], g: u64)
+// Each number of a row, as the step makes it.
+fn map_all<F: Fn(i64) -> i64>(s: &mut [i64], step: F)
     requires each { Each 9223372036854775807 s.old }
-    requires g_nonzero { (0 < g) × (g ≤ 9223372036854775807) }
-    ensures { s.new ≡ quots g s.old }
+    requires callable { (i : ℕ) → i < length s.old → F.pre step (at s.old i) }
+    ensures { Stepped (F.post step) s.old s.new }
 {
-    let mut i = 0;
-    while i < s.len() {
-        let x = s[i];
-        let q = number::quot(x, g);
-        s[i] = q;
-        i += 1;
+    for x in s.iter_mut() {
+        *x = step(*x);
     }
 }
 
@@ -50,71 +45,36 @@ pub fn reduce(s: &mut [i64])
 {
     let g = gcd_all(s);
     if g > 1 {
-        div_all(s, g);
+        map_all(s, |x| number::quot(x, g));
     }
+}
+
+// Whether each number of a row lies in -most..most.
+pub fn all_within(s: &[i64], most: u64) -> bool
+    ensures { result ≡ all_in most s.now }
+{
+    s.iter().all(|x| x.unsigned_abs() <= most)
 }
 
 // Whether each number of a row lies in -M..M.
 pub fn within_all(s: &[i64]) -> bool
-    requires { Each 9223372036854775807 s.now }
     ensures { result ≡ all_in M s.now }
 {
-    let mut i = 0;
-    while i < s.len() {
-        let x = s[i];
-        let a = number::abs(x);
-        if MOST < a {
-            return false;
-        }
-        i += 1;
-    }
-    true
+    all_within(s, MOST)
 }
 
 // Whether each number of a row is 0.
 pub fn all_zero(s: &[i64]) -> bool
     ensures { result ≡ all_zero s.now }
 {
-    let mut i = 0;
-    while i < s.len() {
-        let x = s[i];
-        if x != 0 {
-            return false;
-        }
-        i += 1;
-    }
-    true
+    s.iter().all(|x| *x == 0)
 }
 
-// Whether two rows are the same.
+// Whether two rows are the same. (`==` of slices takes more than twice as long on rows as short as these.)
 pub fn same_row(a: &[i64], b: &[i64]) -> bool
-    requires { length a.now ≡ length b.now }
     ensures { result ≡ same_row a.now b.now }
 {
-    let mut i = 0;
-    while i < a.len() {
-        let x = a[i];
-        let y = b[i];
-        if x != y {
-            return false;
-        }
-        i += 1;
-    }
-    true
-}
-
-// Each sign turned.
-pub fn negate(s: &mut [i64])
-    requires { Each 9223372036854775807 s.old }
-    ensures { s.new ≡ minus s.old }
-{
-    let mut i = 0;
-    while i < s.len() {
-        let x = s[i];
-        let q = number::neg(x);
-        s[i] = q;
-        i += 1;
-    }
+    a.len() == b.len() && a.iter().zip(b).all(|(x, y)| x == y)
 }
 
 // The nine numbers of an atom with each sign turned.
@@ -123,7 +83,7 @@ pub fn negated(ns: [i64; 9]) -> [i64; 9]
     ensures { result ≡ minus ns }
 {
     let mut b = ns;
-    negate(&mut b);
+    map_all(&mut b, |x| number::neg(x));
     b
 }
 

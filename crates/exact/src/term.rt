@@ -29,23 +29,18 @@ fn turned(turn: bool, z: i64) -> i64
 }
 
 // -t/a from ax + t, not reduced.
-fn term_raw(ns: &[i64], x: usize) -> [i64; 10]
-    requires ns_len { (length ns.now ≡ 9) × (x < variables) }
+fn term_raw(ns: &[i64; 9], x: usize) -> [i64; 10]
+    requires x_is_low { x < variables }
     requires each { Each M ns.now }
     ensures { result ≡ tab 10 (term_at ns.now x) }
 {
     let mut m = [0i64; 10];
     let a = ns[x];
     let below = a < 0;
-    let mut i: usize = 0;
-    while i < 9 {
-        let t = left(ns, x, i);
-        let z = turned(!below, t);
-        m[i] = z;
-        i += 1;
+    for i in 0..9 {
+        m[i] = turned(!below, left(ns, x, i));
     }
-    let d = turned(below, a);
-    m[9] = d;
+    m[9] = turned(below, a);
     m
 }
 
@@ -80,16 +75,11 @@ fn mid_raw(t: &[i64], u: &[i64]) -> [i64; 10]
     let mut m = [0i64; 10];
     let d = t[9];
     let e = u[9];
-    let mut i: usize = 0;
-    while i < 9 {
-        let x = t[i];
-        let y = u[i];
-        let z = number::mul_add(x, e, y, d);
-        m[i] = z;
-        i += 1;
+    for i in 0..9 {
+        m[i] = number::mul_add(t[i], e, u[i], d);
     }
-    let w = number::twice(d, e);
-    m[9] = w;
+    let denominator = number::twice(d, e);
+    m[9] = denominator;
     m
 }
 

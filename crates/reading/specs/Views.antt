@@ -12,11 +12,16 @@ use Rattle.reading.specs.declared.Binder.{Binder}
 
 -- ---- the kind
 
--- the code's case for each comparison, and 01's number for each of the code's cases
+-- the code's case for each comparison, the comparison of each case, and 01's number for it
 abbrev pub comparison_case : Comparison → Code.Comparison
 comparison_case less = Less
 comparison_case atmost = AtMost
 comparison_case equal = Equal
+
+abbrev pub comparison_in : Code.Comparison → Comparison
+comparison_in Less = less
+comparison_in AtMost = atmost
+comparison_in Equal = equal
 
 abbrev pub comparison_case_no : Code.Comparison → ℕ
 comparison_case_no Less = 1
@@ -47,11 +52,6 @@ shape_size (Shape.Quantifier b) = quant_size
 shape_size Shape.Window = window_size
 
 -- the kind that reading finds
-abbrev pub comparison_in : Code.Comparison → Comparison
-comparison_in Less = less
-comparison_in AtMost = atmost
-comparison_in Equal = equal
-
 abbrev pub shape_kind : Shape → Kind
 shape_kind (Shape.Atom c) = atom_k (comparison_in c)
 shape_kind Shape.Not = not_k

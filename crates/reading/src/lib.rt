@@ -101,10 +101,10 @@ pub enum Comparison {
 }
 
 impl Comparison {
-    pub fn number(self) -> u8
+    pub fn number(self) -> u16
         ensures { result ≡ comparison_case_no self }
     {
-        self as u8
+        self as u16
     }
 }
 

@@ -18,7 +18,7 @@ came q p = cond (fits q p) (come_of (copy q p)) big
 
 -- s begins with a formula without quantifiers, the point is in range, what may be counted on is so, and an output of n bytes has room from `to` on: a
 -- copy has at most seven times the bytes
-pub record Asks (s : List ℕ) (neg : Bool) (way : Way) (q : Point) (to n : ℕ) (ms : List ℕ) : Type 0 where
+pub record Asks (s : List ℕ) (neg : Bool) (way : Way) (q : Point) (to n : ℕ) (ms : List Bool) : Type 0 where
   pub begins : Begins s (tree_of s)
   pub free : Free (tree_of s)
   pub point : Ready q

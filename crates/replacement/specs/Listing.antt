@@ -1,11 +1,13 @@
 -- A list while it is written (01, 'Lists'): how a member comes out, what is tallied of the members, and what the code's `Open` holds of them.
-use Rattle.std.specs.Prelude.{◌≡◌, ℕ, ◌+◌, ◌≤◌, ◌<◌, Bool, true, false, List, [], ◌∷◌, ◌++◌, length, take}
+use Rattle.std.specs.Prelude.{◌≡◌, ℕ, ◌+◌, ◌≤◌, ◌<◌, Bool, true, false, List, [], ◌∷◌, ◌++◌, length, take, Result, Ok, Err}
 use Rattle.std.proofs.Math.Bool as Bool
 use Rattle.reading.specs.Formula.{Formula, Formulas, list, none, more, count, encode, encodes}
 use Rattle.rules.specs.Pushing.{under}
 use Rattle.rules.specs.Lists.{Known, decided, unknown, known}
 use Rattle.replacement.specs.declared.Copied.{Copied}
-use Rattle.replacement.specs.declared.Copied.TheVariants.{Decided, Kept, Big}
+use Rattle.replacement.specs.declared.Came.{Came}
+use Rattle.replacement.specs.declared.Came.TheVariants.{Decided, Kept}
+use Rattle.replacement.specs.declared.TooBig.{TooBig}
 use Rattle.replacement.specs.declared.Open.{Open}
 
 -- how a formula comes out at a spot: true or false, a formula, or with a number outside −M..M
@@ -68,19 +70,25 @@ bytes_of (truth v) = []
 bytes_of (kept g) = encode g
 bytes_of big = []
 
-abbrev pub copied_of : Come → ℕ → ℕ → Copied
-copied_of (truth v) used to = Decided used v
-copied_of (kept g) used to = Kept used (to + length (encode g))
-copied_of big used to = Big
+-- the code's answers for a source of `used` bytes: true or false, and kept up to e
+abbrev pub decided_as : ℕ → Bool → Result Copied TooBig
+decided_as used v = Ok (record { used = used; came = Decided v })
+
+abbrev pub kept_as : ℕ → ℕ → Result Copied TooBig
+kept_as used e = Ok (record { used = used; came = Kept e })
+
+abbrev pub copied_of : Come → ℕ → ℕ → Result Copied TooBig
+copied_of (truth v) used to = decided_as used v
+copied_of (kept g) used to = kept_as used (to + length (encode g))
+copied_of big used to = Err (record {})
 
 -- 01's number for each case: 11 is a reduced number outside −M..M
-abbrev pub copied_no : Copied → ℕ
-copied_no (Decided used v) = 0
-copied_no (Kept used e) = 0
-copied_no Big = 11
+abbrev pub copied_no : Result Copied TooBig → ℕ
+copied_no (Ok r) = 0
+copied_no (Err e) = 11
 
 -- r is the answer for c, whose source has `used` bytes; c was written at `to` over o₀, and o is there now
-pub record Wrote (c : Come) (used to : ℕ) (o₀ o : List ℕ) (r : Copied) : Type 0 where
+pub record Wrote (c : Come) (used to : ℕ) (o₀ o : List ℕ) (r : Result Copied TooBig) : Type 0 where
   pub answer : r ≡ copied_of c used to
   pub bytes : take (to + length (bytes_of c)) o ≡ take to o₀ ++ bytes_of c
 
@@ -95,25 +103,9 @@ decided_of l v = record { all = l.all; start = l.start; end = l.end; kept = l.ke
 abbrev pub kept_of : Open → ℕ → Open
 kept_of l e = record { all = l.all; start = l.start; end = e; kept = l.kept + 1; fixed = l.fixed }
 
-abbrev pub taken_of : Open → Copied → Open
-taken_of l (Decided used v) = decided_of l v
-taken_of l (Kept used e) = kept_of l e
-taken_of l Big = l
-
-abbrev pub big_of : Copied → Bool
-big_of (Decided used v) = false
-big_of (Kept used e) = false
-big_of Big = true
-
-abbrev pub used_of : Copied → ℕ
-used_of (Decided used v) = used
-used_of (Kept used e) = used
-used_of Big = 0
-
-abbrev pub after_of : ℕ → Copied → Copied
-after_of n (Decided used v) = Decided (n + used) v
-after_of n (Kept used e) = Kept (n + used) e
-after_of n Big = Big
+abbrev pub taken_of : Open → Came → Open
+taken_of l (Decided v) = decided_of l v
+taken_of l (Kept e) = kept_of l e
 
 -- o holds the list l, whose kept members are gs, from `to` on: six bytes for its record, then the members; before `to` stands what o₀ has
 pub record At (l : Open) (gs : Formulas) (to : ℕ) (o₀ o : List ℕ) : Type 0 where
@@ -130,6 +122,6 @@ pub record Space (l : Open) (n : ℕ) : Type 0 where
   pub high : l.end ≤ n
   pub few : l.kept < 65536
 
--- whatever members the list has, they are closed by the list rule
+-- whatever members the list has, they are closed by the list rule, and no number is too big
 abbrev pub Closes : Open → ℕ → List ℕ → List ℕ → Copied → Type 0
-Closes l used o o' r = (gs : Formulas) (to : ℕ) (o₀ : List ℕ) → At l gs to o₀ o → Wrote (close_of l.all l.fixed gs) used to o₀ o' r
+Closes l used o o' r = (gs : Formulas) (to : ℕ) (o₀ : List ℕ) → At l gs to o₀ o → Wrote (close_of l.all l.fixed gs) used to o₀ o' (Ok r)

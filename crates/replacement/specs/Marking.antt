@@ -21,18 +21,18 @@ Unchanged x (window v lo hi) = ⊥
 
 -- each atom that is marked comes out as it is; the formula begins where n bytes are left
 abbrev mutual
-  pub Marked : ℕ → List ℕ → ℕ → Formula → Type 0
-  Marked x ms n (atom c ns) = get_or ms (n / 40) 0 ≡ 1 → Unchanged x (atom c ns)
+  pub Marked : ℕ → List Bool → ℕ → Formula → Type 0
+  Marked x ms n (atom c ns) = get_or ms (n / 40) false ≡ true → Unchanged x (atom c ns)
   Marked x ms n (not f) = Marked x ms (n - not_size) f
   Marked x ms n (list b fs) = AllMarked x ms (n - list_size) fs
   Marked x ms n (quant b v f) = Unit {0}
   Marked x ms n (window v lo hi) = Unit {0}
 
-  pub AllMarked : ℕ → List ℕ → ℕ → Formulas → Type 0
+  pub AllMarked : ℕ → List Bool → ℕ → Formulas → Type 0
   AllMarked x ms n none = Unit {0}
   AllMarked x ms n (more f fs) = Marked x ms n f × AllMarked x ms (n - length (encode f)) fs
 
 -- the table has room for the marks of the formula that s begins with, and holds them
-pub record HasMarks (x : ℕ) (s ms : List ℕ) : Type 0 where
+pub record HasMarks (x : ℕ) (s : List ℕ) (ms : List Bool) : Type 0 where
   pub room : length s < 40 * length ms
   pub marked : Marked x ms (length s) (tree_of s)

@@ -1,5 +1,5 @@
 -- What is told of a body before its copies are made, and what its replacement is: the list of the copies closed by the list rule, at the start of the output.
-use Rattle.std.specs.Prelude.{ℕ, ◌≤◌, ◌+◌, ◌*◌, ◌<◌, ◌≡◌, Bool, false, true, List, length, take}
+use Rattle.std.specs.Prelude.{ℕ, ◌≤◌, ◌+◌, ◌*◌, ◌<◌, ◌≡◌, Bool, false, true, List, length, take, Result, Ok, Err}
 use Rattle.reading.specs.Limits.{result_bytes}
 use Rattle.reading.specs.Formula.{Formula, encode, Formulas, list, none}
 use Rattle.rules.specs.Pushing.{push}
@@ -7,13 +7,14 @@ use Rattle.rules.specs.Points.{terms, points}
 use Rattle.rules.specs.Steps.{replacement, numbers_fit}
 use Rattle.replacement.specs.declared.Body.{Body}
 use Rattle.replacement.specs.declared.Copies.{Copies}
-use Rattle.replacement.specs.declared.Made.{Made}
+use Rattle.replacement.specs.declared.Unmade.{Unmade}
+use Rattle.replacement.specs.declared.Unmade.TheVariants.{Big, Short}
 use Rattle.replacement.specs.Listing.{Come, close_of, Space, truth, kept, big, going}
 use Rattle.replacement.specs.Marking.{Marked}
 use Rattle.replacement.specs.Trying.{Lists, Sure}
 
 -- what is told of the body f for the variable x, of b bytes, and its marks
-pub record Told (f : Formula) (x b : ℕ) (ms : List ℕ) (y : Body) : Type 0 where
+pub record Told (f : Formula) (x b : ℕ) (ms : List Bool) (y : Body) : Type 0 where
   pub variable : y.x ≡ x
   pub bytes : y.bytes ≡ b
   pub marks : y.way.marked ≡ true → (b < 40 * length ms) × Marked x ms b f
@@ -40,7 +41,7 @@ abbrev pub Replaces : Copies → List ℕ → List ℕ → ℕ → Type 0
 Replaces c o o' r = (all x : Bool) (gs : Formulas) (o₀ : List ℕ) → Lists all (going x gs) c o₀ o → Put (formula_for (close_of all x gs)) o' r
 
 -- what the replacement of the quantifier over f came to, where o is the output, of n bytes
-abbrev pub MadeOf : Bool → Body → Formula → ℕ → List ℕ → Made → Type 0
-MadeOf all y f n o (Made.Fine r) = (numbers_fit (points y.x (terms y.x f)) (push false f) ≡ true) × Put (replacement all y.x f) o r
-MadeOf all y f n o Made.Big = numbers_fit (points y.x (terms y.x f)) (push false f) ≡ false
-MadeOf all y f n o Made.Short = n < result_bytes + 6 + 7 * y.bytes
+abbrev pub MadeOf : Bool → Body → Formula → ℕ → List ℕ → Result ℕ Unmade → Type 0
+MadeOf all y f n o (Ok r) = (numbers_fit (points y.x (terms y.x f)) (push false f) ≡ true) × Put (replacement all y.x f) o r
+MadeOf all y f n o (Err Big) = numbers_fit (points y.x (terms y.x f)) (push false f) ≡ false
+MadeOf all y f n o (Err Short) = n < result_bytes + 6 + 7 * y.bytes

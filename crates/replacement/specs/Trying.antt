@@ -1,11 +1,13 @@
 -- The list of the copies while the code writes it: the tally of the points tried so far, and what `Copies` then holds. It may end at
 -- result_bytes + 6: the six bytes of its own record come on top of a list left with one member.
-use Rattle.std.specs.Prelude.{◌≡◌, Bool, true, false, cond, List, [], ◌∷◌, ℕ, ◌+◌, ◌≤◌, ◌<◌, ◌*◌, length, ltb}
+use Rattle.std.specs.Prelude.{◌≡◌, Bool, true, false, cond, List, [], ◌∷◌, ℕ, ◌+◌, ◌≤◌, ◌<◌, ◌*◌, length, ltb, Result, Ok, Err}
 use Rattle.reading.specs.Limits.{result_bytes, variables}
 use Rattle.reading.specs.Formula.{Formulas, encodes, Formula, encode, Free}
-use Rattle.replacement.specs.declared.Copied.{Copied}
-use Rattle.replacement.specs.declared.Copied.TheVariants.{Decided, Kept, Big}
+use Rattle.replacement.specs.declared.Came.{Came}
+use Rattle.replacement.specs.declared.Came.TheVariants.{Decided, Kept}
 use Rattle.replacement.specs.declared.Copies.{Copies}
+use Rattle.replacement.specs.declared.Unmade.{Unmade}
+use Rattle.replacement.specs.declared.Unmade.TheVariants.{Big, Short}
 use Rattle.replacement.specs.declared.Body.{Body}
 use Rattle.reading.specs.Reading.{tree_of, Begins}
 use Rattle.exact.specs.Atoms.{Spot}
@@ -17,21 +19,20 @@ use Rattle.replacement.specs.Copying.{came}
 
 -- the list after a copy that ends at e: too far or not; and where the list is over already or not
 abbrev pub kept_by : Bool → Copies → ℕ → Copies
-kept_by true c e = record { list = c.list; over = true; big = c.big; short = c.short }
-kept_by false c e = record { list = kept_of c.list e; over = false; big = c.big; short = c.short }
+kept_by true c e = record { list = c.list; over = true }
+kept_by false c e = record { list = kept_of c.list e; over = false }
 
 abbrev pub kept_in : Bool → Copies → ℕ → Copies
 kept_in true c e = c
 kept_in false c e = kept_by (ltb (result_bytes + 6) e) c e
 
-abbrev pub joined_of : Copies → Copied → Copies
-joined_of c Big = record { list = c.list; over = c.over; big = true; short = c.short }
-joined_of c (Decided used v) = record { list = decided_of c.list v; over = c.over; big = c.big; short = c.short }
-joined_of c (Kept used e) = kept_in c.over c e
+abbrev pub joined_of : Copies → Came → Copies
+joined_of c (Decided v) = record { list = decided_of c.list v; over = c.over }
+joined_of c (Kept e) = kept_in c.over c e
 
--- the copies end here: a number was too big, there is no room for one more, or the list is decided and no number can be too big
+-- the copies end here: the list is decided and no number can be too big
 abbrev pub ends_of : Copies → Bool → Bool
-ends_of c calm = cond c.big true (cond c.short true (cond calm c.list.fixed false))
+ends_of c calm = cond calm c.list.fixed false
 
 -- c holds the list of the members gs, over o₀: they are there, or they are longer than any result may be
 pub record Live (gs : Formulas) (c : Copies) (o₀ o : List ℕ) : Type 0 where
@@ -40,23 +41,27 @@ pub record Live (gs : Formulas) (c : Copies) (o₀ o : List ℕ) : Type 0 where
 
 -- where the list stands; once it is decided its members do not matter
 pub record Stays (all x : Bool) (gs : Formulas) (c : Copies) (o₀ o : List ℕ) : Type 0 where
-  pub small : c.big ≡ false
   pub fixed : c.list.fixed ≡ x
   pub same : c.list.all ≡ all
   pub end : c.list.end ≤ result_bytes + 6
   pub few : c.list.kept ≤ c.list.end
   pub live : x ≡ false → Live gs c o₀ o
 
--- c holds the tally: a number was too big, or the list stands
+-- c holds the tally; a number that was too big is answered and never held
 abbrev pub Lists : Bool → Tally → Copies → List ℕ → List ℕ → Type 0
-Lists all over c o₀ o = c.big ≡ true
+Lists all over c o₀ o = ⊥
 Lists all (going x gs) c o₀ o = Stays all x gs c o₀ o
 
--- copies of a body of b bytes were written over o, and o' is there now: whatever tally c holds, x holds it with how they came out, unless there was no
--- room for one more
-pub record Tries (b : ℕ) (c : Copies) (cs : List Come) (o o' : List ℕ) (x : Copies) : Type 0 where
-  pub lists : x.short ≡ false → (all : Bool) (t : Tally) (o₀ : List ℕ) → Lists all t c o₀ o → Lists all (tally all t cs) x o₀ o'
-  pub narrow : x.short ≡ true → length o < result_bytes + 6 + 7 * b
+-- what is answered for copies of a body of b bytes in an output of n bytes, which have the tally t: the list holds it; a number was too big; or there
+-- was no room for one copy more
+abbrev pub Tells : Bool → Tally → ℕ → ℕ → List ℕ → List ℕ → Result Copies Unmade → Type 0
+Tells all t b n o₀ o (Ok c) = Lists all t c o₀ o
+Tells all t b n o₀ o (Err Big) = t ≡ over
+Tells all t b n o₀ o (Err Short) = n < result_bytes + 6 + 7 * b
+
+-- copies of a body of b bytes were written over o, and o' is there now: whatever tally c holds, x tells it with how they came out
+pub record Tries (b : ℕ) (c : Copies) (cs : List Come) (o o' : List ℕ) (x : Result Copies Unmade) : Type 0 where
+  pub tells : (all : Bool) (t : Tally) (o₀ : List ℕ) → Lists all t c o₀ o → Tells all (tally all t cs) b (length o) o₀ o' x
 
 -- ---- the copies at all points
 
@@ -71,7 +76,7 @@ try_all (q ∷ qs) p = try_at q p ∷ try_all qs p
 -- ---- what is asked for
 
 -- s begins with a body without quantifiers, no longer than a result, x is a variable, and an output of n bytes has room for the record of a list
-pub record Copiable (s : List ℕ) (y : Body) (n : ℕ) (ms : List ℕ) : Type 0 where
+pub record Copiable (s : List ℕ) (y : Body) (n : ℕ) (ms : List Bool) : Type 0 where
   pub begins : Begins s (tree_of s)
   pub free : Free (tree_of s)
   pub low : y.x < variables
@@ -84,11 +89,9 @@ pub record Copiable (s : List ℕ) (y : Body) (n : ℕ) (ms : List ℕ) : Type 0
 abbrev pub Sure : Body → List Spot → Formula → Type 0
 Sure y qs p = y.way.calm ≡ true → numbers_fit qs p ≡ true
 
--- c holds a tally, over what was there before, no number was too big, and there was room
+-- c holds a tally, over what was there before
 pub record Holding (c : Copies) (o : List ℕ) : Type 0 where
   pub all : Bool
   pub so_far : Tally
   pub before : List ℕ
   pub lists : Lists all so_far c before o
-  pub small : c.big ≡ false
-  pub roomy : c.short ≡ false

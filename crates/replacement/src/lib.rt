@@ -9,17 +9,48 @@ mod replacing;
 mod surveying;
 mod trying;
 
-pub use copying::copied as copy;
-pub use gathering::gather;
-pub use replacing::{body_of, made as make};
+use exact::Point;
+pub use gathering::{Terms, gather};
+pub use replacing::body_of;
 
-// How a formula comes out at a point: true or false; kept, with the end of its bytes in the output; or with a number outside -M..M. The first
-// number of the first two is the formula's own length.
-#[derive(Clone, Copy)]
-pub enum Copied {
-    Decided(usize, bool),
-    Kept(usize, usize),
+// A number outside -M..M.
+#[derive(Clone, Copy, Debug, PartialEq, Eq)]
+pub struct TooBig;
+
+// More boundary terms than a step may have.
+#[derive(Clone, Copy, Debug, PartialEq, Eq)]
+pub struct TooMany;
+
+// Why the replacement of a quantifier was not made: a number was too big, or the output has no room for one copy more.
+#[derive(Clone, Copy, Debug, PartialEq, Eq)]
+pub enum Unmade {
     Big,
+    Short,
+}
+
+impl From<TooBig> for Unmade {
+    ghost use Rattle.std.specs.Prelude.{◌≡◌};
+    ghost use Rattle.replacement.specs.declared.Unmade.{Unmade};
+
+    ghost from_gives = { λ _ e. e ≡ Unmade.Big };
+
+    fn from(_e: TooBig) -> Unmade {
+        Unmade::Big
+    }
+}
+
+// How a formula came out at a point: true or false; or kept, with the end of its bytes in the output.
+#[derive(Clone, Copy, Debug, PartialEq, Eq)]
+pub enum Came {
+    Decided(bool),
+    Kept(usize),
+}
+
+// A formula that was copied: how many bytes it has itself, and how it came out.
+#[derive(Clone, Copy, Debug, PartialEq, Eq)]
+pub struct Copied {
+    pub used: usize,
+    pub came: Came,
 }
 
 // A list that is being written from `start` on: ALLOF or ANYOF, where the next member goes, how many members are kept, and whether one has
@@ -47,6 +78,14 @@ pub struct Way {
     pub marked: bool,
 }
 
+// One pass over a formula: at which point it is copied, what may be counted on, and the marks of its atoms.
+#[derive(Clone, Copy)]
+pub struct Pass<'a> {
+    pub point: Point,
+    pub way: Way,
+    pub marks: &'a [bool],
+}
+
 // A body: its variable, how many bytes it has, and what may be counted on.
 #[derive(Clone, Copy)]
 pub struct Body {
@@ -55,27 +94,18 @@ pub struct Body {
     pub way: Way,
 }
 
-// The list of the copies while it is written: whether it is longer than any result may be, whether a number was too big, and whether the output has no
-// room for one copy more.
+// What copies are made of: the bytes that begin with the body, what is known of it, and the marks of its atoms.
+#[derive(Clone, Copy)]
+pub struct Source<'a> {
+    pub bytes: &'a [u8],
+    pub body: Body,
+    pub marks: &'a [bool],
+}
+
+// The list of the copies while it is written, and whether it is longer than any result may be. One that is may still be decided, and then its length
+// does not matter: so the two stand side by side.
 #[derive(Clone, Copy)]
 pub struct Copies {
     pub list: Open,
     pub over: bool,
-    pub big: bool,
-    pub short: bool,
-}
-
-// What gathering boundary terms came to: the bytes of the formula and the terms so far, or more than 64.
-#[derive(Clone, Copy)]
-pub enum Gathered {
-    Fine(usize, usize),
-    Full,
-}
-
-// What the replacement of a quantifier came to: its length; a number was too big; or the output has not enough room.
-#[derive(Clone, Copy)]
-pub enum Made {
-    Fine(usize),
-    Big,
-    Short,
 }

@@ -5,11 +5,11 @@ ghost use Rattle.reading.specs.Formula.{list, none, Free};
 ghost use Rattle.reading.specs.Reading.{tree_of, Exactly};
 ghost use Rattle.rules.specs.Pushing.{push};
 ghost use Rattle.rules.specs.Points.{points, terms};
-ghost use Rattle.replacement.specs.Gathering.{rows_of, Table};
+ghost use Rattle.replacement.specs.Gathering.{Table};
 ghost use Rattle.replacement.specs.Trying.{Copiable, Sure};
 ghost use Rattle.replacement.specs.Replacing.{Told, Put, Closable, Replaces, MadeOf};
 
-use crate::{Body, Copied, Copies, Made, Way, listing, marking, surveying, trying};
+use crate::{Body, Came, Copies, Source, Unmade, Way, marking, surveying};
 use reading::RESULT_BYTES;
 
 // From so many boundary terms on it pays to mark the atoms that come out as they are.
@@ -30,65 +30,48 @@ fn replaced(c: Copies, out: &mut [u8]) -> usize
     requires { Closable c (length out.old) }
     ensures { Replaces c out.old out.new result }
 {
-    let l = c.list;
-    if l.fixed {
-        return sure(out, !l.all);
+    if c.list.fixed {
+        return sure(out, !c.list.all);
     }
     if c.over {
         return RESULT_BYTES + 1;
     }
-    let r = listing::closed(l, out, 0);
-    match r {
-        Copied::Decided(_, v) => sure(out, v),
-        Copied::Kept(_, e) => e,
-        Copied::Big => 0,
+    match c.list.closed(out, 0).came {
+        Came::Decided(v) => sure(out, v),
+        Came::Kept(e) => e,
     }
 }
 
-// The replacement of a quantifier over the body that s begins with, at the start of out; the table ts holds its n boundary terms.
-pub fn made(
-    s: &[u8],
-    body: Body,
-    ts: &[i64],
-    n: usize,
-    all: bool,
-    out: &mut [u8],
-    marks: &[u8],
-) -> Made
-    requires copiable { Copiable s.now body (length out.old) marks.now }
-    requires table { Table ts.now n × (rows_of n ts.now ≡ terms body.x (tree_of s.now)) }
-    requires sure { Sure body (points body.x (terms body.x (tree_of s.now))) (push false (tree_of s.now)) }
-    ensures { MadeOf all body (tree_of s.now) (length out.old) out.new result }
-{
-    let c = trying::all_copies(s, body, ts, n, all, out, marks);
-    if c.short {
-        return Made::Short;
+impl Source<'_> {
+    // The replacement of a quantifier over the body, at the start of out; ts are the body's boundary terms.
+    pub fn made(&self, ts: &[[i64; 10]], all: bool, out: &mut [u8]) -> Result<usize, Unmade>
+        requires copiable { Copiable self.now.bytes.now self.now.body (length out.old) self.now.marks.now }
+        requires table { Table ts.now × (ts.now ≡ terms self.now.body.x (tree_of self.now.bytes.now)) }
+        requires sure { Sure self.now.body (points self.now.body.x (terms self.now.body.x (tree_of self.now.bytes.now))) (push false (tree_of self.now.bytes.now)) }
+        ensures { MadeOf all self.now.body (tree_of self.now.bytes.now) (length out.old) out.new result }
+    {
+        Ok(replaced(self.all_copies(ts, all, out)?, out))
     }
-    if c.big {
-        return Made::Big;
-    }
-    Made::Fine(replaced(c, out))
 }
 
 // What is known of the body s, of n terms, for the variable x; its marks, from so many terms on that they pay.
-pub fn body_of(s: &[u8], x: usize, n: usize, marks: &mut [u8]) -> Body
+pub fn body_of(s: &[u8], x: usize, n: usize, marks: &mut [bool]) -> Body
     requires exactly { Exactly s.now (tree_of s.now) × Free (tree_of s.now) }
     requires x_lt_variables { x < variables }
     requires s_len_bound { length s.now < 40 * length marks.old }
     ensures { Told (tree_of s.now) x (length s.now) marks.new result }
 {
-    let v = surveying::survey(s, s.len(), x);
+    let v = surveying::survey(s, x);
     let marked = ENOUGH_TERMS <= n;
     if marked {
         marking::mark(s, x, marks);
     }
-    let way = Way {
-        calm: surveying::is_tame(v),
-        marked: marked,
-    };
     Body {
-        x: x,
+        x,
         bytes: s.len(),
-        way: way,
+        way: Way {
+            calm: surveying::is_tame(v),
+            marked,
+        },
     }
 }

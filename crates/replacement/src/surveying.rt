@@ -9,15 +9,8 @@ ghost use Rattle.rules.specs.Tame.{tame};
 ghost use Rattle.replacement.specs.Surveying.{Small, Grows, Sees, SeesLeaf};
 
 use crate::Survey;
-use exact::{MOST, abs, left};
+use exact::MOST;
 use reading::{Shape, Window, record_bytes, row_at, shape_at, window_at};
-
-fn larger(a: u64, b: u64) -> u64
-    requires { (a ≤ M) × (b ≤ M) }
-    ensures { (a ≤ result) × (b ≤ result) × (result ≤ M) }
-{
-    if a < b { b } else { a }
-}
 
 // The greatest size of a number of the row, that of x left out.
 fn others(ns: &[i64], x: usize) -> u64
@@ -25,11 +18,10 @@ fn others(ns: &[i64], x: usize) -> u64
     ensures { ((i : ℕ) → nat_abs (left_at ns.now x i) ≤ result) × (result ≤ M) }
 {
     let mut m: u64 = 0;
-    let mut i = 0;
-    while i < ns.len() {
-        let z = left(ns, x, i);
-        m = larger(m, abs(z));
-        i += 1;
+    for (i, z) in ns.iter().enumerate() {
+        if i != x {
+            m = m.max(z.unsigned_abs());
+        }
     }
     m
 }
@@ -46,8 +38,8 @@ fn of_atom(ns: [i64; 9], x: usize, v: Survey) -> Survey
         return v;
     }
     Survey {
-        most: larger(v.most, abs(a)),
-        other: larger(v.other, others(&ns, x)),
+        most: v.most.max(a.unsigned_abs()),
+        other: v.other.max(others(&ns, x)),
     }
 }
 
@@ -61,11 +53,9 @@ fn of_window(w: Window, x: usize, v: Survey) -> Survey
     if w.variable != x {
         return v;
     }
-    let lo = w.lo;
-    let hi = w.hi;
     Survey {
-        most: larger(v.most, 1),
-        other: larger(v.other, larger(abs(lo), abs(hi))),
+        most: v.most.max(1),
+        other: v.other.max(w.lo.unsigned_abs().max(w.hi.unsigned_abs())),
     }
 }
 
@@ -76,8 +66,7 @@ fn seen(s: &[u8], x: usize, v: Survey) -> Survey
     requires small { Small v }
     ensures { Grows v result × SeesLeaf x result (tree_of s.now) }
 {
-    let shape = shape_at(s);
-    match shape {
+    match shape_at(s) {
         Shape::Atom(_) => of_atom(row_at(s), x, v),
         Shape::Window => of_window(window_at(s), x, v),
         Shape::Not => v,
@@ -86,16 +75,16 @@ fn seen(s: &[u8], x: usize, v: Survey) -> Survey
     }
 }
 
-// The formula of n bytes that s begins with.
-pub fn survey(s: &[u8], n: usize, x: usize) -> Survey
+// The formula s. The way goes from record to record by their lengths, so no index is counted.
+pub fn survey(s: &[u8], x: usize) -> Survey
     requires begins { Begins s.now (tree_of s.now) × Free (tree_of s.now) }
-    requires n_value { n ≡ length (encode (tree_of s.now)) }
+    requires s_len { length s.now ≡ length (encode (tree_of s.now)) }
     requires x_lt_variables { x < variables }
     ensures { Small result × Sees x result (tree_of s.now) }
 {
     let mut v = Survey { most: 0, other: 0 };
     let mut at = 0;
-    while at < n {
+    while at < s.len() {
         v = seen(&s[at..], x, v);
         at += record_bytes(&s[at..]);
     }
@@ -108,7 +97,7 @@ pub fn is_tame(v: Survey) -> bool
     ensures { result ≡ true → tame v.most v.other ≡ true }
 {
     let a = v.most;
-    let num = 2 * larger(v.other, 1) * a;
+    let num = 2 * v.other.max(1) * a;
     if MOST < num {
         return false;
     }

@@ -6,15 +6,13 @@ use mathlib.Core.List.{List}
 use Prim.Native.Nat.{ℕ, zero, suc, ◌+◌, ◌-◌, ◌*◌, ◌≤◌, ◌<◌}
 use native.Mathlib.Nat.{add-zero}
 use native.Mathlib.Omega.{arith}
-use lib.Dec.{leb}
 use lib.ListN.{length, take, drop}
-use lib.IntN.{ℤ, pos, negsuc, nat_abs, ◌+ℤ◌, ◌*ℤ◌, +ℤ_assoc, +ℤ_idl, +ℤ_idr}
+use lib.IntN.{ℤ, pos, ◌+ℤ◌, ◌*ℤ◌, +ℤ_assoc, +ℤ_idl, +ℤ_idr}
 use lib.Signed.{lt_z, le_z}
-use borrow.Author.Tests.{ltb-true, ltb-false, le-leb, lt-leb}
 use Rattle.reading.specs.Limits.{M, most_value, result_bytes, result_levels}
 use Rattle.reading.specs.Bytes.{Bytes}
 use Rattle.reading.specs.AnswerNumbers.{done, quantified, wrong_value}
-use Rattle.reading.specs.Formula.{Comparison, less, atmost, equal, atom_size, window_size, count, Fits, Formula, Formulas, atom, not, list, quant, window, none, more, encode, Free}
+use Rattle.reading.specs.Formula.{Comparison, atom_size, window_size, count, Fits, Formula, Formulas, atom, not, list, quant, window, none, more, encode, Free}
 use Rattle.reading.specs.Reading.{Read, formula_in, tree_of}
 use Rattle.reading.specs.Answers.{reading}
 use Rattle.reading.specs.Quantifiers as Quantifiers
@@ -24,7 +22,7 @@ use Rattle.reading.specs.Answers.{Done, Refused}
 use Rattle.std.specs.Prelude.{Some, None}
 use Rattle.reading.proofs.Places.{nothing-free}
 use Rattle.reading.proofs.Trees.{tree_is, begins-tree, accepted-read}
-use Rattle.reading.specs.Views.{comparison_case, comparison_case_no, shape_of, IsWindow, numbers_of, members_of, window_of}
+use Rattle.reading.specs.Views.{comparison_case, comparison_in, shape_of, IsWindow, numbers_of, members_of, window_of}
 use Rattle.reading.specs.declared.Comparison as Code
 use Rattle.reading.specs.declared.Shape.TheVariants as Shape
 use Rattle.reading.proofs.Lengths.{atom-long, window-long, more-long}
@@ -32,7 +30,8 @@ use Rattle.reading.proofs.Walking.{Inner, inner_of, Walk, walk_start, walk_begin
 use Rattle.reading.proofs.Viewing.{shape-atom, shape-list}
 use Rattle.exact.specs.Numbers as Numbers
 use Rattle.exact.specs.Numbers.{Within, Each, all_in}
-use Rattle.exact.specs.Atoms.{holds, comparison_of}
+use Rattle.exact.specs.Atoms.{holds}
+use Rattle.exact.proofs.Atoms.{case-in}
 use Rattle.exact.proofs.Sizes.{in-+, in-*, in-more}
 use Rattle.exact.proofs.Rows.{all-each}
 use Rattle.testing.specs.declared.Holds.{Holds}
@@ -79,14 +78,6 @@ summed-done {ns} {w} {i} {t} h k s =
 
 -- ---- the range of the values
 
-pub range-below : (z : ℤ) → lt_z z (negsuc 999999) ≡ true → false ≡ leb (nat_abs z) most_value
-range-below (pos n) h = absurd (true≢false (sym h))
-range-below (negsuc n) h = sym (lt-leb (suc n) most_value (omega (arith, ltb-true 999999 n h)))
-
-pub range-rest : (z : ℤ) → lt_z z (negsuc 999999) ≡ false → le_z z (pos 1000000) ≡ leb (nat_abs z) most_value
-range-rest (pos n) h = refl
-range-rest (negsuc n) h = sym (le-leb (suc n) most_value (omega (arith, ltb-false 999999 n h)))
-
 and_left : (a b : Bool) → (a && b) ≡ true → a ≡ true
 and_left true b e = refl
 and_left false b e = e
@@ -96,17 +87,11 @@ allowed-each {w} e = all-each most_value w (and_left (all_in most_value w) (lt_z
 
 -- ---- an atom and a window
 
--- the comparison of an atom's kind
-case-back : (c : Comparison) → comparison_of (comparison_case_no (comparison_case c)) ≡ c
-case-back less = refl
-case-back atmost = refl
-case-back equal = refl
-
-pub holds-atom : (f : Formula) (d : ℕ) (w : List ℤ) {k : Code.Comparison} {b : Bool} → Fits d f → shape_of f ≡ Shape.Atom k → b ≡ holds (comparison_of (comparison_case_no k)) (sum_at (numbers_of f) w) → record { used = atom_size; holds = b } ≡ holds_of w f
+pub holds-atom : (f : Formula) (d : ℕ) (w : List ℤ) {k : Code.Comparison} {b : Bool} → Fits d f → shape_of f ≡ Shape.Atom k → b ≡ holds (comparison_in k) (sum_at (numbers_of f) w) → record { used = atom_size; holds = b } ≡ holds_of w f
 unfolding true_at
 holds-atom (atom c ns) d w {k} g q e =
     let h : comparison_case c ≡ k = cc in
-    let t = e ∙ ap (λ (c : Comparison). holds c (sum_at ns w)) (ap (λ (y : Code.Comparison). comparison_of (comparison_case_no y)) (sym h) ∙ case-back c) in
+    let t = e ∙ ap (λ (c : Comparison). holds c (sum_at ns w)) (ap comparison_in (sym h) ∙ case-in c) in
     ap₂ (λ (n : ℕ) (y : Bool). record { used = n; holds = y }) (sym (atom-long c ns g.1.0)) t
 holds-atom (not f) d w g q e = absurd (shape-atom (not f) q)
 holds-atom (list b fs) d w g q e = absurd (shape-atom (list b fs) q)

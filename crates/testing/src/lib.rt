@@ -1,7 +1,7 @@
 // The test of a quantifier-free sheet at eight whole numbers over one denominator, given as nine numbers. It writes nothing.
 #![tactic(auto)]
 
-ghost use Rattle.std.specs.Prelude.{◌≡◌, ◌&&◌, ◌+◌, ◌<◌, leb, nat_abs, ◌+ℤ◌, ◌*ℤ◌};
+ghost use Rattle.std.specs.Prelude.{◌≡◌, ◌&&◌, ◌+◌, ◌<◌, ◌+ℤ◌, ◌*ℤ◌};
 ghost use Rattle.std.specs.Int.Signed.{le_z};
 ghost use Rattle.reading.specs.Limits.{M, variables, most_value};
 ghost use Rattle.reading.specs.Formula.{not_size};
@@ -24,7 +24,7 @@ pub struct Holds {
 }
 
 // The values and the denominator of a test lie in -MOST_VALUE..MOST_VALUE.
-const MOST_VALUE: i64 = 1000000;
+const MOST_VALUE: u64 = 1000000;
 
 // t + a·v.
 fn added(t: i64, a: i64, v: i64) -> i64
@@ -43,12 +43,8 @@ fn sum(ns: [i64; 9], w: [i64; 9]) -> i64
     ensures { result ≡ sum_at ns w }
 {
     let mut t: i64 = 0;
-    let mut i: usize = 0;
-    while i < 9 {
-        let a = ns[i];
-        let v = w[i];
-        t = added(t, a, v);
-        i += 1;
+    for (i, a) in ns.iter().enumerate() {
+        t = added(t, *a, w[i]);
     }
     t
 }
@@ -61,15 +57,11 @@ fn in_window(b: Window, w: [i64; 9]) -> bool
     requires each { Each most_value w }
     ensures { result ≡ (le_z (b.lo *ℤ at w 8) (at w b.variable) && le_z (at w b.variable) (b.hi *ℤ at w 8)) }
 {
-    let x = b.variable;
     let q = w[8];
-    let p = w[x];
+    let p = w[b.variable];
     let lo = added(0, b.lo, q);
     let hi = added(0, b.hi, q);
-    if lo <= p {
-        return p <= hi;
-    }
-    false
+    lo <= p && p <= hi
 }
 
 // The answer for a formula under NOT.
@@ -77,15 +69,9 @@ fn denied(h: Holds) -> Holds
     requires { not_size + h.used < 18446744073709551616 }
     ensures { result ≡ denied_of h }
 {
-    if h.holds {
-        return Holds {
-            used: NOT_BYTES + h.used,
-            holds: false,
-        };
-    }
     Holds {
         used: NOT_BYTES + h.used,
-        holds: true,
+        holds: !h.holds,
     }
 }
 
@@ -94,15 +80,10 @@ fn joined(all: bool, holds: bool, member: bool) -> bool
     ensures { result ≡ join all holds member }
 {
     if all {
-        if holds {
-            return member;
-        }
-        return false;
+        holds && member
+    } else {
+        holds || member
     }
-    if holds {
-        return true;
-    }
-    member
 }
 
 // Whether the formula that s begins with holds at the values, and its length. A quantifier is never met.
@@ -111,28 +92,21 @@ fn holds_at(s: &[u8], w: [i64; 9]) -> Holds
     requires { Testable s.now w }
     ensures { result ≡ holds_of w (tree_of s.now) }
 {
-    let shape = shape_at(s);
-    match shape {
-        Shape::Atom(c) => {
-            let b = exact::holds(c.number(), sum(row_at(s), w));
-            Holds {
-                used: ATOM_BYTES,
-                holds: b,
-            }
-        }
+    match shape_at(s) {
+        Shape::Atom(c) => Holds {
+            used: ATOM_BYTES,
+            holds: exact::holds(c, sum(row_at(s), w)),
+        },
         Shape::Not => denied(holds_at(&s[NOT_BYTES..], w)),
         Shape::List(all) => holds_list(s, all, w),
         Shape::Quantifier(_) => Holds {
             used: 0,
             holds: false,
         },
-        Shape::Window => {
-            let b = in_window(window_at(s), w);
-            Holds {
-                used: WINDOW_BYTES,
-                holds: b,
-            }
-        }
+        Shape::Window => Holds {
+            used: WINDOW_BYTES,
+            holds: in_window(window_at(s), w),
+        },
     }
 }
 
@@ -144,44 +118,20 @@ fn holds_list(s: &[u8], all: bool, w: [i64; 9]) -> Holds
     ensures { result ≡ holds_of w (tree_of s.now) }
 {
     let mut holds = all;
-    let mut at: usize = LIST_BYTES;
-    let mut left = members_at(s);
-    while left > 0 {
-        let h = holds_at(&s[at..], w);
+    let mut used: usize = LIST_BYTES;
+    for _ in 0..members_at(s) {
+        let h = holds_at(&s[used..], w);
         holds = joined(all, holds, h.holds);
-        at += h.used;
-        left -= 1;
+        used += h.used;
     }
-    Holds {
-        used: at,
-        holds: holds,
-    }
-}
-
-fn in_range(x: i64) -> bool
-    ensures { result ≡ leb (nat_abs x) most_value }
-{
-    if x < -MOST_VALUE {
-        return false;
-    }
-    x <= MOST_VALUE
+    Holds { used, holds }
 }
 
 // Whether the values are in their range, and the denominator above 0.
 fn allowed(w: [i64; 9]) -> bool
     ensures { result ≡ allowed w }
 {
-    let mut i: usize = 0;
-    while i < 9 {
-        let x = w[i];
-        if in_range(x) {
-            i += 1;
-        } else {
-            return false;
-        }
-    }
-    let q = w[8];
-    0 < q
+    exact::all_within(&w, MOST_VALUE) && 0 < w[8]
 }
 
 // The test: 2 to 9, then 13 at the first quantifier, then 14; else whether the sheet holds at the eight values over the denominator w[8].

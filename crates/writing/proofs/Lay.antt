@@ -1,23 +1,21 @@
 -- The laws of `lay`: what stands where, after bytes were laid over a list; and the turns of the loops that write. Assumes nothing.
 use mathlib.Core.Path.{◌≡◌, refl, sym, ◌∙◌, ap, ap₂}
-use mathlib.Core.Bool.{Bool, true, false}
+use mathlib.Core.Bool.{Bool}
 use mathlib.Core.List.{List, [], ◌∷◌, ◌++◌, append_assoc, append-nil}
-use Prim.Native.Nat.{ℕ, suc, ◌+◌, ◌-◌, ◌≤◌, ◌<◌}
-use native.Mathlib.Nat.{add-zero, not-suc-le-zero}
+use Prim.Native.Nat.{ℕ, suc, ◌+◌, ◌-◌, ◌*◌, ◌/◌, ◌%◌, ◌≤◌, ◌<◌}
+use Rattle.std.specs.Int.{to_le_bytes}
+use native.Mathlib.Nat.{add-zero}
 use native.Mathlib.Numerals.{add-one}
 use native.Mathlib.Omega.{arith}
-use lib.Dec.{T, ltb→lt}
+use lib.Dec.{T}
 use lib.ListN.{length, take, drop, set, get_or, length-set, drop_of_length-le, take-append-drop}
-use lib.Seq.{take-suc-set, drop-set-lt, take-take, take-append-le, length-take-le, take-add, drop_at, drop-cons, append_snoc}
-use lib.IntN.{ℤ, pos, negsuc, nat_abs, ◌+ℤ◌}
-use lib.Signed.{lt_z, non_neg}
+use lib.Seq.{drop-drop, take-suc-set, drop-set-lt, take-take, take-append-le, length-take-le, take-add, drop_at, drop-cons, append_snoc}
+use lib.IntN.{ℤ, pos}
 use mir.Syntax.{w32}
 use mir.Val.{of_z}
-use Rattle.reading.specs.Limits.{M}
-use Rattle.reading.specs.Bytes.{bytes2, bytes4, int_bytes, zeros}
+use borrow.Rule.Slice.PartMut.{put_mid}
+use Rattle.reading.specs.Bytes.{bytes2, bytes4, int_bytes}
 use Rattle.reading.specs.Formula.{list_no}
-use Rattle.exact.specs.Numbers.{Within}
-use Rattle.exact.proofs.Order.{sub-ge}
 use Rattle.writing.specs.Writing.{lay, atom_bytes, list_bytes}
 
 pub lay-append : (at : ℕ) (a b d : List ℕ) → lay at (a ++ b) d ≡ lay (at + length a) b (lay at a d)
@@ -56,6 +54,11 @@ lay-whole at b d h =
     ∙ ap₂ ◌++◌ (lay-take at b d h) (lay-drop at b d (at + length b) (omega arith))
     ∙ append_assoc (take at d) b (drop (at + length b) d)
 
+-- which is what a write to that part of a slice leaves
+pub lay-mid : (at n : ℕ) (b y d : List ℕ) → y ≡ b → n ≡ length b → at + length b ≤ length d → put_mid at n d y ≡ lay at b d
+lay-mid at n b y d e f h =
+    ap₂ (λ (x : List ℕ) (m : ℕ). put_mid at m d x) e f ∙ ap (λ (r : List ℕ). take at d ++ (b ++ r)) (drop-drop (length b) at d) ∙ sym (lay-whole at b d h)
+
 -- what was written from n on left what stands before
 pub keeps : (n : ℕ) (b o o' : List ℕ) (m : ℕ) → take (n + length b) o' ≡ take n o ++ b → m ≤ n → n ≤ length o → take m o' ≡ take m o
 keeps n b o o' m e h k =
@@ -69,29 +72,42 @@ cancel p n o b k f e =
     ∙ ap (drop p) (sym (take-add p (length b) o) ∙ sym (ap (λ (m : ℕ). take m o) f) ∙ e)
     ∙ drop_at (take p o) b p (length-take-le p o k)
 
+-- ---- bytes in a row
+
+pub bytes-turn : (b : List ℕ) (i at : ℕ) (d T : List ℕ) → i < length b → lay (at + i) (drop i b) d ≡ T → lay (at + (i + 1)) (drop (i + 1) b) (set d (at + i) (get_or b i 0)) ≡ T
+unfolding lay
+bytes-turn b i at d T lt e =
+    let f : drop i b ≡ get_or b i 0 ∷ drop (i + 1) b = drop-cons b i 0 lt ∙ ap (λ (n : ℕ). get_or b i 0 ∷ drop n b) (sym (add-one i)) in
+    let to : at + (i + 1) ≡ at + i + 1 = omega arith in
+    ap (λ (n : ℕ). lay n (drop (i + 1) b) (set d (at + i) (get_or b i 0))) to ∙ sym (ap (λ (l : List ℕ). lay (at + i) l d) f) ∙ e
+
+pub bytes-end : (b : List ℕ) (i at : ℕ) (d T : List ℕ) → length b ≤ i → lay (at + i) (drop i b) d ≡ T → d ≡ T
+unfolding lay
+bytes-end b i at d T h e = sym (ap (λ (l : List ℕ). lay (at + i) l d) (drop_of_length-le b h)) ∙ e
+
 -- ---- numbers in a row
 
-pub nums-turn : (k : List ℤ) (i to : ℕ) (x : ℤ) (d d' T : List ℕ) → i < length k → x ≡ get_or k i (pos 0) → d' ≡ lay to (bytes4 (of_z w32 x)) d
-    → lay to (int_bytes (drop i k)) d ≡ T → lay (to + 4) (int_bytes (drop (i + 1) k)) d' ≡ T
+pub nums-turn : (k : List ℤ) (i at : ℕ) (x : ℤ) (d d' T : List ℕ) → i < length k → x ≡ get_or k i (pos 0) → d' ≡ lay (at + 4 * i) (bytes4 (of_z w32 x)) d
+    → lay (at + 4 * i) (int_bytes (drop i k)) d ≡ T → lay (at + 4 * (i + 1)) (int_bytes (drop (i + 1) k)) d' ≡ T
 unfolding int_bytes
-nums-turn k i to x d d' T lt ex ed e =
+nums-turn k i at x d d' T lt ex ed e =
     let f : drop i k ≡ get_or k i (pos 0) ∷ drop (i + 1) k = drop-cons k i (pos 0) lt ∙ ap (λ (n : ℕ). get_or k i (pos 0) ∷ drop n k) (sym (add-one i)) in
-    ap (lay (to + 4) (int_bytes (drop (i + 1) k))) (ed ∙ ap (λ (z : ℤ). lay to (bytes4 (of_z w32 z)) d) ex)
-    ∙ sym (lay-append to (bytes4 (of_z w32 (get_or k i (pos 0)))) (int_bytes (drop (i + 1) k)) d) ∙ sym (ap (λ (l : List ℤ). lay to (int_bytes l) d) f) ∙ e
+    let to : at + 4 * (i + 1) ≡ at + 4 * i + 4 = omega arith in
+    ap₂ (λ (n : ℕ) (l : List ℕ). lay n (int_bytes (drop (i + 1) k)) l) to (ed ∙ ap (λ (z : ℤ). lay (at + 4 * i) (bytes4 (of_z w32 z)) d) ex)
+    ∙ sym (lay-append (at + 4 * i) (bytes4 (of_z w32 (get_or k i (pos 0)))) (int_bytes (drop (i + 1) k)) d) ∙ sym (ap (λ (l : List ℤ). lay (at + 4 * i) (int_bytes l) d) f) ∙ e
 
 pub nums-end : (k : List ℤ) (i to : ℕ) (d T : List ℕ) → length k ≤ i → lay to (int_bytes (drop i k)) d ≡ T → d ≡ T
 unfolding int_bytes lay
 nums-end k i to d T le e = sym (ap (λ (l : List ℤ). lay to (int_bytes l) d) (drop_of_length-le k le)) ∙ e
 
--- ---- zeros
+-- ---- the four bytes of a number, the lowest first
 
-pub zeros-turn : (i to : ℕ) (d T : List ℕ) → i < to → lay i (zeros (to - i)) d ≡ T → lay (i + 1) (zeros (to - (i + 1))) (set d i 0) ≡ T
-unfolding lay
-zeros-turn i to d T lt e = let f : to - i ≡ suc (to - (i + 1)) = omega arith in rw f at e
-
-pub zeros-end : (i to : ℕ) (d T : List ℕ) → to ≤ i → lay i (zeros (to - i)) d ≡ T → d ≡ T
-unfolding lay
-zeros-end i to d T le e = let f : to - i ≡ 0 = omega arith in rw f at e
+pub four-bytes : (n : ℕ) → n < 4294967296 → to_le_bytes w32 n ≡ bytes4 n
+four-bytes n h =
+    let a : n % 256 ≡ n % 65536 % 256 = omega arith in
+    let b : n / 256 % 256 ≡ n % 65536 / 256 = omega arith in
+    let c : n / 16777216 % 256 ≡ n / 65536 / 256 = omega arith in
+    cc
 
 -- ---- a record, part by part
 
@@ -105,27 +121,6 @@ lay-atom at k ns d x y z e f g = lay-two at (bytes2 40 ++ bytes2 k) (int_bytes n
 pub lay-list : (at n : ℕ) (all : Bool) (m : ℕ) (d x y z : List ℕ) → m ≡ list_no all → x ≡ lay at (bytes2 6) d → y ≡ lay (at + 2) (bytes2 m) x → z ≡ lay (at + 4) (bytes2 n) y → z ≡ lay at (list_bytes all n) d
 unfolding list_bytes
 lay-list at n all m d x y z h e f g = lay-two at (bytes2 6 ++ bytes2 (list_no all)) (bytes2 n) d y z (lay-two at (bytes2 6) (bytes2 (list_no all)) d x y e (f ∙ ap (λ (k : ℕ). lay (at + 2) (bytes2 k) x) h)) g
-
-pub list-no : (all : Bool) → list_no all < 65536
-list-no true = omega arith
-list-no false = omega arith
-
--- ---- the bits of a signed number
-
-pub bits-high : (x : ℤ) → T (lt_z x (pos 0)) → Within M x → x +ℤ pos 4294967296 ≡ pos (of_z w32 x)
-bits-high (pos n) t w = absurd (not-suc-le-zero (ltb→lt n 0 t))
-bits-high (negsuc n) t w = sub-ge 4294967296 (suc n) (omega (arith, w.size))
-
-pub bits-low : (x : ℤ) → T (non_neg x) → nat_abs x ≡ of_z w32 x
-bits-low (pos n) t = refl
-bits-low (negsuc n) t = absurd t
-
-pub bits_fit : (x : ℤ) → Within M x → of_z w32 x < 4294967296
-bits_fit (pos n) w = omega (arith, w.size)
-bits_fit (negsuc n) w = let e : 4294967296 - suc n < 4294967296 = omega arith in e
-
-pub lay-int : (at u : ℕ) (z y : ℤ) (d x : List ℕ) → u ≡ of_z w32 y → y ≡ z → x ≡ lay at (bytes4 u) d → x ≡ lay at (bytes4 (of_z w32 z)) d
-lay-int at u z y d x e h f = f ∙ ap (λ (k : ℕ). lay at (bytes4 k) d) (e ∙ ap (of_z w32) h)
 
 -- ---- a turn of the loop that pulls a list's one member six bytes ahead, and its end
 

@@ -1,41 +1,41 @@
 // Writing numbers and records at a place of a buffer. Each promise is an equation with `lay`, so it also says that nothing else changes.
 #![tactic(auto)]
 
-ghost use Rattle.std.specs.Prelude.{◌≡◌, ◌+◌, ◌-◌, ◌≤◌, ◌<◌, length, take, drop};
+ghost use Rattle.std.specs.Prelude.{◌≡◌, ◌+◌, ◌-◌, ◌≤◌, ◌<◌, length};
 ghost use Rattle.std.specs.Int.{w32};
 ghost use Rattle.std.proofs.Common.{of_z};
 ghost use Rattle.reading.specs.Limits.{M};
 ghost use Rattle.reading.specs.Bytes.{bytes2, bytes4, int_bytes, zeros};
 ghost use Rattle.reading.specs.Formula.{list_no};
+ghost use Rattle.reading.specs.Views.{comparison_case_no};
 ghost use Rattle.exact.specs.Numbers.{Within, Each};
 ghost use Rattle.writing.specs.Writing.{lay, atom_bytes, list_bytes};
 
-pub fn put_u16(d: &mut [u8], at: usize, n: usize)
-    requires { (at + 2 ≤ length d.old) × (n < 65536) }
+use reading::Comparison;
+
+// Bytes, laid over those that stand from `at` on.
+pub fn paste(d: &mut [u8], at: usize, b: &[u8])
+    requires { at + length b.now ≤ length d.old }
+    ensures { d.new ≡ lay at b.now d.old }
+{
+    d[at..at + b.len()].copy_from_slice(b);
+}
+
+// The same for an array: its few bytes are stores, and no copy of a slice.
+fn put<const N: usize>(d: &mut [u8], at: usize, b: &[u8; N])
+    requires { at + N ≤ length d.old }
+    ensures { d.new ≡ lay at b.now d.old }
+{
+    for (i, x) in b.iter().enumerate() {
+        d[at + i] = *x;
+    }
+}
+
+pub fn put_u16(d: &mut [u8], at: usize, n: u16)
+    requires { at + 2 ≤ length d.old }
     ensures { d.new ≡ lay at (bytes2 n) d.old }
 {
-    d[at] = (n % 256) as u8;
-    d[at + 1] = (n / 256) as u8;
-}
-
-pub fn put_u32(d: &mut [u8], at: usize, n: usize)
-    requires { (at + 4 ≤ length d.old) × (n < 4294967296) }
-    ensures { d.new ≡ lay at (bytes4 n) d.old }
-{
-    put_u16(d, at, n % 65536);
-    put_u16(d, at + 2, n / 65536);
-}
-
-// The thirty-two bits of a signed number.
-fn bits(x: i64) -> u32
-    requires { Within M x }
-    ensures { result ≡ of_z w32 x }
-{
-    if x < 0 {
-        (x + 4294967296) as u32
-    } else {
-        x as u32
-    }
+    put(d, at, &n.to_le_bytes());
 }
 
 // A signed number in four bytes.
@@ -44,36 +44,31 @@ pub fn put_int(d: &mut [u8], at: usize, x: i64)
     requires within { Within M x }
     ensures { d.new ≡ lay at (bytes4 (of_z w32 x)) d.old }
 {
-    put_u32(d, at, bits(x) as usize);
+    put(d, at, &(x as i32).to_le_bytes());
 }
 
-pub fn put_nums(d: &mut [u8], at: usize, k: [i64; 9])
+pub fn put_nums(d: &mut [u8], at: usize, k: &[i64; 9])
     requires at_in_bounds { at + 36 ≤ length d.old }
-    requires each { Each M k }
-    ensures { d.new ≡ lay at (int_bytes k) d.old }
+    requires each { Each M k.now }
+    ensures { d.new ≡ lay at (int_bytes k.now) d.old }
 {
-    let mut i: usize = 0;
-    let mut to = at;
-    while i < 9 {
-        let x = k[i];
-        put_int(d, to, x);
-        to += 4;
-        i += 1;
+    for (i, x) in k.iter().enumerate() {
+        put_int(d, at + 4 * i, *x);
     }
 }
 
-// An atom of the kind, with its nine numbers.
-pub fn put_atom(d: &mut [u8], at: usize, kind: usize, k: [i64; 9])
-    requires at_in_bounds { (at + 40 ≤ length d.old) × (kind < 65536) }
-    requires each { Each M k }
-    ensures { d.new ≡ lay at (atom_bytes kind k) d.old }
+// An atom, with its nine numbers.
+pub fn put_atom(d: &mut [u8], at: usize, c: Comparison, k: &[i64; 9])
+    requires at_in_bounds { at + 40 ≤ length d.old }
+    requires each { Each M k.now }
+    ensures { d.new ≡ lay at (atom_bytes (comparison_case_no c) k.now) d.old }
 {
     put_u16(d, at, 40);
-    put_u16(d, at + 2, kind);
+    put_u16(d, at + 2, c.number());
     put_nums(d, at + 4, k);
 }
 
-fn list_no(all: bool) -> usize
+fn list_no(all: bool) -> u16
     ensures { result ≡ list_no all }
 {
     if all { 5 } else { 6 }
@@ -86,7 +81,7 @@ pub fn put_list(d: &mut [u8], at: usize, all: bool, n: usize)
 {
     put_u16(d, at, 6);
     put_u16(d, at + 2, list_no(all));
-    put_u16(d, at + 4, n);
+    put_u16(d, at + 4, n as u16);
 }
 
 // Zeros up to, but not at, the place `to`.
@@ -94,21 +89,5 @@ pub fn put_zeros(d: &mut [u8], from: usize, to: usize)
     requires { (from ≤ to) × (to ≤ length d.old) }
     ensures { d.new ≡ lay from (zeros (to - from)) d.old }
 {
-    let mut i = from;
-    while i < to {
-        d[i] = 0;
-        i += 1;
-    }
-}
-
-// n bytes of `from`, those from `start` on, laid over `to` from `at` on.
-pub fn paste(to: &mut [u8], at: usize, from: &[u8], start: usize, n: usize)
-    requires { (at + n ≤ length to.old) × (start + n ≤ length from.now) }
-    ensures { to.new ≡ lay at (take n (drop start from.now)) to.old }
-{
-    let mut i = 0;
-    while i < n {
-        to[at + i] = from[start + i];
-        i += 1;
-    }
+    d[from..to].fill(0);
 }

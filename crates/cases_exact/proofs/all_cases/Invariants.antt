@@ -1,9 +1,6 @@
 -- Each case takes a byte at least, so less is left at each turn.
-use Rattle.std.proofs.Common.{◌-◌, ◌≤◌, length}
+use Rattle.std.proofs.Common.{length}
 use Rattle.cases_exact.proofs.all_cases.Given as goal
 
-abbrev pub invariant-loop-at : goal.invariant-loop-at
-invariant-loop-at g l = l.at ≤ length l.s
-
-abbrev pub decreases-loop-at : goal.decreases-loop-at
-decreases-loop-at g l = length l.s - l.at
+abbrev pub decreases-loop-letter : goal.decreases-loop-letter
+decreases-loop-letter g l = length l.rest

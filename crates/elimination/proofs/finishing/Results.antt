@@ -14,11 +14,13 @@ use Rattle.rules.specs.Lists.{Known, decided, unknown, known}
 use Rattle.rules.specs.Copies.{copy, fits}
 use Rattle.rules.specs.Eliminate.{finished}
 use Rattle.writing.specs.Writing.{lay, list_bytes}
-use Rattle.replacement.specs.Listing.{Come, big, come_by, come_of, big_of, Wrote}
+use Rattle.replacement.specs.Listing.{Come, big, come_by, come_of, Wrote}
 use Rattle.replacement.specs.Copying.{came}
 use Rattle.elimination.specs.Finishing.{FinishesIn}
+use Rattle.std.specs.Prelude.{Result, Ok, Err}
 use Rattle.replacement.specs.declared.Copied.{Copied}
-use Rattle.replacement.specs.declared.Copied.TheVariants.{Decided, Kept, Big}
+use Rattle.replacement.specs.declared.Came.TheVariants.{Decided, Kept}
+use Rattle.replacement.specs.declared.TooBig.{TooBig}
 use Rattle.replacement.proofs.Outcomes.{come-back, sure-bytes, decided-is, kept-is}
 use Rattle.replacement.proofs.Outcomes.{big-is}
 use Rattle.writing.proofs.Lay.{lay-take, lay-drop}
@@ -37,7 +39,7 @@ came-finished : (q : Spot) (f : Formula) → q ≡ nowhere → fits nowhere (pus
 unfolding came finished
 came-finished q f e h = ap (λ (s : Spot). came s (push false f)) e ∙ ap (λ (b : Bool). cond b (come_of (copy nowhere (push false f))) big) h
 
-pub finish-wrote : (f : Formula) (q : Spot) {used : ℕ} {o₀ o : List ℕ} {r : Copied} → q ≡ nowhere → fits nowhere (push false f) ≡ true → Wrote (came q (push false f)) used 0 o₀ o r
+pub finish-wrote : (f : Formula) (q : Spot) {used : ℕ} {o₀ o : List ℕ} {r : Result Copied TooBig} → q ≡ nowhere → fits nowhere (push false f) ≡ true → Wrote (came q (push false f)) used 0 o₀ o r
     → Wrote (come_of (finished f)) used 0 o₀ o r
 finish-wrote f q {used} {o₀} {o} {r} e h w = subst (λ (c : Come). Wrote c used 0 o₀ o r) (came-finished q f e h) w
 
@@ -45,16 +47,16 @@ come-small : (k : Known) (g : Formula) → come_by k g ≡ big → ⊥
 come-small (decided v) g e = let z : ◌≡◌ {A = ℕ} 0 1 = cc in omega arith
 come-small unknown g e = let z : ◌≡◌ {A = ℕ} 0 1 = cc in omega arith
 
-module _ (f : Formula) {used : ℕ} {o₀ o : List ℕ} {r : Copied} (w : Wrote (come_of (finished f)) used 0 o₀ o r) where
+module _ (f : Formula) {used : ℕ} {o₀ o : List ℕ} {r : Copied} (w : Wrote (come_of (finished f)) used 0 o₀ o (Ok r)) where
   -- where it is kept
-  stands : (x m : ℕ) → Kept x m ≡ r → (m ≡ length (encode (finished f))) × (take m o ≡ encode (finished f))
-  stands x m h = subst (λ (g : Formula). (m ≡ length (encode g)) × (take m o ≡ encode g)) (come-back (finished f)) (kept-is (come_of (finished f)) x m w (sym h))
+  stands : (m : ℕ) → r.came ≡ Kept m → (m ≡ length (encode (finished f))) × (take m o ≡ encode (finished f))
+  stands m h = subst (λ (g : Formula). (m ≡ length (encode g)) × (take m o ≡ encode g)) (come-back (finished f)) (kept-is (come_of (finished f)) m w h)
 
   -- the true or the false record was put
-  pub finish-sure : (x : ℕ) (v : Bool) (cur cur' : List ℕ) → result_bytes ≤ length cur → Decided x v ≡ r → cur' ≡ lay 0 (list_bytes v 0) cur → FinishesIn f cur cur' 6
+  pub finish-sure : (v : Bool) (cur cur' : List ℕ) → result_bytes ≤ length cur → r.came ≡ Decided v → cur' ≡ lay 0 (list_bytes v 0) cur → FinishesIn f cur cur' 6
   unfolding list_bytes
-  finish-sure x v cur cur' long h k =
-      let g : finished f ≡ list v none = sym (come-back (finished f)) ∙ decided-is (come_of (finished f)) x v w (sym h) in
+  finish-sure v cur cur' long h k =
+      let g : finished f ≡ list v none = sym (come-back (finished f)) ∙ decided-is (come_of (finished f)) v w h in
       let b : encode (finished f) ≡ list_bytes v 0 = ap encode g ∙ sym (sure-bytes v) in
       record {
         answer = sym (ap length b);
@@ -63,15 +65,15 @@ module _ (f : Formula) {used : ℕ} {o₀ o : List ℕ} {r : Copied} (w : Wrote 
       }
 
   -- the result is longer than the limit
-  pub finish-long : (x m : ℕ) (cur : List ℕ) → Kept x m ≡ r → result_bytes < m → FinishesIn f cur cur m
-  finish-long x m cur h lt =
-      let a = stands x m h in
+  pub finish-long : (m : ℕ) (cur : List ℕ) → r.came ≡ Kept m → result_bytes < m → FinishesIn f cur cur m
+  finish-long m cur h lt =
+      let a = stands m h in
       record { answer = a.0; bytes = λ le. absurd (omega (arith, a.0)); rest = refl }
 
   -- the result was put
-  pub finish-put : (x m : ℕ) (cur cur' : List ℕ) → result_bytes ≤ length cur → Kept x m ≡ r → m ≤ result_bytes → cur' ≡ lay 0 (take m o) cur → FinishesIn f cur cur' m
-  finish-put x m cur cur' long h le k =
-      let a = stands x m h in
+  pub finish-put : (m : ℕ) (cur cur' : List ℕ) → result_bytes ≤ length cur → r.came ≡ Kept m → m ≤ result_bytes → cur' ≡ lay 0 (take m o) cur → FinishesIn f cur cur' m
+  finish-put m cur cur' long h le k =
+      let a = stands m h in
       let y : cur' ≡ lay 0 (encode (finished f)) cur = k ∙ ap (λ (l : List ℕ). lay 0 l cur) a.1 in
       record {
         answer = a.0;
@@ -80,12 +82,12 @@ module _ (f : Formula) {used : ℕ} {o₀ o : List ℕ} {r : Copied} (w : Wrote 
       }
 
   -- the result stands in the output
-  pub finish-room : (x m : ℕ) → Kept x m ≡ r → m ≤ length o
-  finish-room x m h =
-      let a = stands x m h in
+  pub finish-room : (m : ℕ) → r.came ≡ Kept m → m ≤ length o
+  finish-room m h =
+      let a = stands m h in
       let l : length (take m o) ≡ m = ap length a.1 ∙ sym a.0 in
       omega (arith, length-take m o, min-le_right m (length o))
 
-  -- a number is never too big
-  pub finish-never : Big ≡ r → ⊥
-  finish-never h = come-small (known (finished f)) (finished f) (big-is (come_of (finished f)) used 0 o₀ o r w (sym (ap big_of h)))
+-- a number is never too big
+pub finish-never : (f : Formula) {used : ℕ} {o₀ o : List ℕ} {e : TooBig} → Wrote (come_of (finished f)) used 0 o₀ o (Err e) → ⊥
+finish-never f {used} {o₀} {o} {e} w = come-small (known (finished f)) (finished f) (big-is (come_of (finished f)) used 0 o₀ o e w)

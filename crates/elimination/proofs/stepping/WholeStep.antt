@@ -23,17 +23,16 @@ use Rattle.rules.specs.Steps.{replacement, step, refusal, numbers_fit}
 use Rattle.rules.specs.Points.{terms, points}
 use Rattle.rules.specs.Counts.{terms_at}
 use Rattle.rules.specs.Pushing.{push}
-use Rattle.replacement.specs.Gathering.{rows_of, Table}
+use Rattle.std.specs.Prelude.{Result}
+use Rattle.replacement.specs.Gathering.{Table}
 use Rattle.reading.proofs.Lengths.{quant-long}
 use Rattle.replacement.specs.Marking.{Marked, HasMarks}
 use Rattle.replacement.specs.Trying.{Copiable, Sure}
 use Rattle.replacement.specs.Replacing.{Told, Put, MadeOf}
 use Rattle.elimination.specs.Stepping.{held, Stands, refusal_at, stepped_of, is_short, Tried, Steps, Poised, spliced_end, Splices}
 use Rattle.replacement.specs.declared.Body.{Body}
-use Rattle.replacement.specs.declared.Made.{Made}
+use Rattle.replacement.specs.declared.Unmade.{Unmade}
 use Rattle.elimination.specs.declared.Stepped.{Stepped}
-use Rattle.replacement.proofs.Outcomes.{rows_long}
-use Rattle.replacement.proofs.Outcomes.{Found}
 use Rattle.writing.proofs.Moving.{drop-take}
 use Rattle.rules.proofs.Stepwise.OneStep.{Splits, splits}
 
@@ -261,26 +260,26 @@ module _ {len o : ℕ} {cur : List ℕ} {b : Bool} {v : ℕ} {g : Formula} (st :
             short-enough false k z d = omega (arith, d, ltb-false result_bytes long k)
 
   -- what is known before the step, once the terms are gathered and the body has been looked at
-  pub poised : (w : Binder) (y : Body) (n u : ℕ) (ts : List ℤ) (ms : List ℕ) → w ≡ record { every = b; variable = v } → let f = tree_of (part len) in
+  pub poised : (w : Binder) (y : Body) (u : ℕ) (ts : List (List ℤ)) (ms : List Bool) → w ≡ record { every = b; variable = v } → let f = tree_of (part len) in
       let s = part (o + 6 + u) in
-      Told (tree_of s) w.variable (length s) ms y → Found w.variable f (length (encode f)) ts u n → Table ts n → Poised len o w.every y n cur ts ms
-  poised w y n u ts ms is told found table =
+      Told (tree_of s) w.variable (length s) ms y → u ≡ length (encode f) → Table ts → ts ≡ terms w.variable f → Poised len o w.every y cur ts ms
+  poised w y u ts ms is told bytes table found =
       let f = part-tree len within (omega arith) in
-      let e : o + 6 + u ≡ o + 6 + length (encode g) = ap (λ (m : ℕ). o + 6 + m) (found.bytes ∙ ap (λ (h : Formula). length (encode h)) f) in
+      let e : o + 6 + u ≡ o + 6 + length (encode g) = ap (λ (m : ℕ). o + 6 + m) (bytes ∙ ap (λ (h : Formula). length (encode h)) f) in
       record {
         body = g;
         last = last ∙ ap₂ (λ (c : Bool) (x : ℕ). at o c x g) (sym (ap (λ (z : Binder). z.every) is)) (sym (told.variable ∙ ap (λ (z : Binder). z.variable) is));
         told = subst (λ (x : ℕ). Told g x (length (encode g)) ms y) (sym told.variable)
             (subst (λ (m : ℕ). Told g w.variable m ms y) (body-long (o + 6 + u) e) (subst (λ (h : Formula). Told h w.variable (length (part (o + 6 + u))) ms y) (body-tree (o + 6 + u) e) told));
         table = table;
-        rows = found.rows ∙ ap₂ terms (sym told.variable) f;
+        terms_are = found ∙ ap₂ terms (sym told.variable) f;
       }
 
 -- ---- a step from what is known before it
 
-module _ {len o : ℕ} {every : Bool} {y : Body} {n : ℕ} {cur : List ℕ} {ts : List ℤ} {ms : List ℕ} (st : Stands len cur) (p : Poised len o every y n cur ts ms) where
+module _ {len o : ℕ} {every : Bool} {y : Body} {cur : List ℕ} {ts : List (List ℤ)} {ms : List Bool} (st : Stands len cur) (p : Poised len o every y cur ts ms) where
   most : length (terms y.x p.body) ≤ most_terms
-  most = omega (arith, ap length p.rows, rows_long n ts, p.table.few)
+  most = omega (arith, ap length p.terms_are, p.table.few)
 
   pub body-within : o + 6 + y.bytes ≤ len
   body-within = omega (arith, within st p.last, p.told.bytes)
@@ -307,7 +306,7 @@ module _ {len o : ℕ} {every : Bool} {y : Body} {n : ℕ} {cur : List ℕ} {ts 
       }
 
   pub made_asks : (m : ℕ) → 6 ≤ m
-      → Copiable source y m ms × ((Table ts n × (rows_of n ts ≡ terms y.x (tree_of source))) × Sure y (points y.x (terms y.x (tree_of source))) (push false (tree_of source)))
+      → Copiable source y m ms × ((Table ts × (ts ≡ terms y.x (tree_of source))) × Sure y (points y.x (terms y.x (tree_of source))) (push false (tree_of source)))
   made_asks m r =
       let s = body-read st p.last (o + 6 + y.bytes) ends_there in (
         record {
@@ -319,10 +318,10 @@ module _ {len o : ℕ} {every : Bool} {y : Body} {n : ℕ} {cur : List ℕ} {ts 
           marks = source-marks;
           room = r;
         },
-        ((p.table, p.rows ∙ ap (terms y.x) (sym source-tree)), subst (λ (f : Formula). Sure y (points y.x (terms y.x f)) (push false f)) (sym source-tree) p.told.sure),
+        ((p.table, p.terms_are ∙ ap (terms y.x) (sym source-tree)), subst (λ (f : Formula). Sure y (points y.x (terms y.x f)) (push false f)) (sym source-tree) p.told.sure),
       )
 
-  pub made_told : (m : ℕ) (out : List ℕ) (r : Made) → MadeOf every y (tree_of source) m out r → MadeOf every y p.body m out r
+  pub made_told : (m : ℕ) (out : List ℕ) (r : Result ℕ Unmade) → MadeOf every y (tree_of source) m out r → MadeOf every y p.body m out r
   made_told m out r = subst (λ (f : Formula). MadeOf every y f m out r) source-tree
 
   -- by what the replacement came to: there is too little room, a number is too big, or it is put in place

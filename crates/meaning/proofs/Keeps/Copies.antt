@@ -15,7 +15,7 @@ use Rattle.exact.specs.Numbers.{at, is_zero}
 use Rattle.exact.specs.Divisor.{reduced}
 use Rattle.exact.specs.Terms.{left_at, midpoint}
 use Rattle.exact.specs.Atoms.{holds, no_variable, Came, sure, new, settled, Spot, nowhere, below, above, here, point_at, point_of, far_of, atom_at}
-use Rattle.exact.specs.declared.PointKind.TheVariants.{Below, Above, Here}
+use Rattle.exact.specs.declared.Place.TheVariants.{Below, Above, At}
 use Rattle.exact.proofs.Sizes.{zero_of}
 use Rattle.exact.proofs.Rows.{at-tab}
 use Rattle.exact.proofs.Terms.{mid-above}
@@ -111,9 +111,9 @@ module _ (w : ℕ → ℤ) (base : sgn (w 8) ≡ positive) (x : ℕ) (named : x 
   there p = upd x p.top p.bottom w
 
   atom-without : (y : Pt (List ℤ)) (c : Comparison) (ns : List ℤ) → is_zero (at ns x) ≡ true → atom_at (spot x y) c ns ≡ settled c ns
-  atom-without low c ns e = at-without Below x [] c ns e
-  atom-without high c ns e = at-without Above x [] c ns e
-  atom-without (term t) c ns e = at-without Here x t c ns e
+  atom-without low c ns e = at-without Below x c ns e
+  atom-without high c ns e = at-without Above x c ns e
+  atom-without (term t) c ns e = at-without (At t) x c ns e
 
   atom-with : (y : Pt (List ℤ)) (c : Comparison) (ns b : List ℤ) (B : List (List ℤ)) (p : Fraction) → is_zero (at ns x) ≡ false → Mem b B → Marks x (at ns) w b → PtOk y → Agrees B p y
       → truth (atom_by (atom_at (spot x y) c ns) c) w ≡ atom_truth c ns (there p)

@@ -3,7 +3,7 @@
 use mathlib.Core.Path.{◌≡◌, refl, sym, ◌∙◌, ap, subst}
 use mathlib.Core.Bool.{Bool, true, false, cond}
 use mathlib.Core.List.{List}
-use Prim.Native.Nat.{ℕ, ◌+◌, ◌/◌, ◌≤◌}
+use Prim.Native.Nat.{ℕ, ◌+◌, ◌/◌}
 use native.Mathlib.Omega.{arith}
 use lib.Dec.{eqb}
 use lib.ListN.{length, take, get_or}
@@ -13,28 +13,26 @@ use borrow.Author.Tests.{eqb-true}
 use Rattle.reading.specs.Limits.{M}
 use Rattle.reading.specs.Formula.{Comparison, Formula, atom, not, list, quant, window, encode}
 use Rattle.reading.specs.Reading.{tree_of}
-use Rattle.reading.specs.Views.{comparison_case, comparison_case_no, shape_of, IsAtom, IsWindow, numbers_of, window_of}
+use Rattle.reading.specs.Views.{comparison_case, comparison_in, shape_of, IsAtom, IsWindow, numbers_of, window_of}
 use Rattle.reading.specs.declared.Comparison as Code
-use Rattle.reading.specs.declared.Comparison.TheVariants.{Less, AtMost, Equal}
 use Rattle.reading.specs.declared.Shape.TheVariants as Shape
-use Rattle.reading.proofs.Viewing.{case-number, shape-atom}
+use Rattle.reading.proofs.Viewing.{shape-atom}
 use Rattle.reading.proofs.Walking.{atom-is}
 use Rattle.exact.specs.Numbers.{Within, Each, single}
-use Rattle.exact.specs.Atoms.{Came, new, atom_at, fitting, no_variable, comparison_of, spot_of}
+use Rattle.exact.specs.Atoms.{Came, new, atom_at, fitting, no_variable, spot_of}
 use Rattle.exact.specs.Divisor.{gcds}
 use Rattle.exact.specs.declared.Point.{Point}
 use Rattle.exact.proofs.Rows.{each_all, each-zeros, each_set, one-reduced}
 use Rattle.exact.proofs.Leaves.{numbers-small}
-use Rattle.exact.proofs.Atoms.{settled-new, at-without}
+use Rattle.exact.proofs.Atoms.{case-in, settled-new, at-without}
 use Rattle.rules.specs.Pushing.{push_atom, push_window, push}
 use Rattle.rules.specs.Copies.{atom_by, copy, fits}
 use Rattle.writing.specs.Writing.{lay}
-use Rattle.replacement.specs.Listing.{kept, big, come_of, Wrote}
+use Rattle.replacement.specs.Listing.{kept, big, come_of, kept_as, Wrote}
 use Rattle.replacement.specs.Copying.{came, Asks}
 use Rattle.replacement.specs.Marking.{Unchanged, Marked}
-use Rattle.replacement.specs.declared.Copied.TheVariants.{Kept}
 use Rattle.replacement.specs.declared.Way.{Way}
-use Rattle.replacement.proofs.copying.Settling.{comparison-back, wrote_kept}
+use Rattle.replacement.proofs.copying.Settling.{wrote_kept}
 
 -- ---- the range
 
@@ -44,17 +42,11 @@ each-single v {a} {c} wa wc = each_set 8 wc (each_set v wa (each-zeros 9))
 
 -- ---- what is pushed
 
--- the number of an atom's kind, and what is pushed of the atom
-pub kind-range : (c : Code.Comparison) → (1 ≤ comparison_case_no c) × (comparison_case_no c ≤ 3)
-kind-range Less = omega arith
-kind-range AtMost = omega arith
-kind-range Equal = omega arith
-
-pub atom-pushed : (f : Formula) {k : Code.Comparison} → shape_of f ≡ Shape.Atom k → (neg : Bool) → push_atom neg (comparison_of (comparison_case_no k)) (numbers_of f) ≡ push neg f
+pub atom-pushed : (f : Formula) {k : Code.Comparison} → shape_of f ≡ Shape.Atom k → (neg : Bool) → push_atom neg (comparison_in k) (numbers_of f) ≡ push neg f
 unfolding push
 atom-pushed (atom c ns) {k} e neg =
     let h : comparison_case c ≡ k = cc in
-    ap (λ (y : Comparison). push_atom neg y ns) (ap (λ (y : Code.Comparison). comparison_of (comparison_case_no y)) (sym h) ∙ ap comparison_of (case-number c) ∙ comparison-back c)
+    ap (λ (y : Comparison). push_atom neg y ns) (ap comparison_in (sym h) ∙ case-in c)
 atom-pushed (not f) e neg = absurd (shape-atom (not f) e)
 atom-pushed (list b fs) e neg = absurd (shape-atom (list b fs) e)
 atom-pushed (quant b v f) e neg = absurd (shape-atom (quant b v f) e)
@@ -71,7 +63,7 @@ window-pushed (window v lo hi) i neg = refl
 -- ---- an atom that comes out as it is
 
 -- by its mark; `unchanged` of MarkLaws says it by its numbers
-pub marked-atom : (x : ℕ) (ms : List ℕ) (n : ℕ) (f : Formula) → IsAtom f → Marked x ms n f → get_or ms (n / 40) 0 ≡ 1 → Unchanged x f
+pub marked-atom : (x : ℕ) (ms : List Bool) (n : ℕ) (f : Formula) → IsAtom f → Marked x ms n f → get_or ms (n / 40) false ≡ true → Unchanged x f
 marked-atom x ms n (atom c ns) i m e = m e
 marked-atom x ms n (not f) i m e = absurd i
 marked-atom x ms n (list b fs) i m e = absurd i
@@ -86,7 +78,7 @@ plain-came : (q : Point) (f : Formula) → Each M (numbers_of f) → Unchanged q
 unfolding came push fits copy
 plain-came q (atom c ns) m u =
     let a = plain-said (no_variable ns) (eqb (gcds ns) 1) u.1 in
-    let e : atom_at (spot_of q) c ns ≡ new ns = at-without q.kind q.x q.n c ns u.0 ∙ settled-new c ns a.0 ∙ ap new (one-reduced ns (eqb-true (gcds ns) 1 a.1)) in
+    let e : atom_at (spot_of q) c ns ≡ new ns = at-without q.place q.x c ns u.0 ∙ settled-new c ns a.0 ∙ ap new (one-reduced ns (eqb-true (gcds ns) 1 a.1)) in
     ap (λ (y : Came). cond (fitting y) (come_of (atom_by y c)) big) e ∙ ap (λ (b : Bool). cond b (kept (atom c ns)) big) (each_all m)
 plain-came q (not f) m u = absurd u
 plain-came q (list b fs) m u = absurd u
@@ -94,14 +86,14 @@ plain-came q (quant b v f) m u = absurd u
 plain-came q (window v lo hi) m u = absurd u
 
 -- its own 40 bytes are written
-pub plain-wrote : {s : List ℕ} {neg : Bool} {way : Way} {q : Point} {to : ℕ} {ms : List ℕ} (o o' : List ℕ) → Asks s neg way q to (length o) ms → IsAtom (tree_of s)
+pub plain-wrote : {s : List ℕ} {neg : Bool} {way : Way} {q : Point} {to : ℕ} {ms : List Bool} (o o' : List ℕ) → Asks s neg way q to (length o) ms → IsAtom (tree_of s)
     → (neg ≡ false) × Unchanged q.x (tree_of s) → o' ≡ lay to (take 40 s) o
-    → Wrote (came (spot_of q) (push neg (tree_of s))) (length (encode (tree_of s))) to o o' (Kept 40 (to + 40))
+    → Wrote (came (spot_of q) (push neg (tree_of s))) (length (encode (tree_of s))) to o o' (kept_as 40 (to + 40))
 plain-wrote {s} {neg} {way} {q} {to} o o' a i u p =
     let f = tree_of s in
     let b = a.begins in
     let n = (atom-is f b i).long in
     let c = ap (λ (y : Bool). came (spot_of q) (push y f)) u.0 ∙ plain-came q f (numbers-small f b i) u.1 in
     let e : take 40 s ≡ encode f = ap (take 40) b.bytes ∙ take_at (encode f) b.rest 40 n in
-    subst (λ (k : ℕ). Wrote (came (spot_of q) (push neg f)) k to o o' (Kept 40 (to + 40))) (sym n)
+    subst (λ (k : ℕ). Wrote (came (spot_of q) (push neg f)) k to o o' (kept_as 40 (to + 40))) (sym n)
     (wrote_kept f 40 to 40 o o' c n (omega (arith, a.room, n)) (p ∙ ap (λ (x : List ℕ). lay to x o) e))

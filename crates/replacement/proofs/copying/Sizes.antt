@@ -11,15 +11,14 @@ use Rattle.reading.specs.Formula.{Comparison, less, atmost, equal, Formula, Form
 use Rattle.reading.proofs.Lengths.{atom-long, not-long, list-long, window-long, none-long, more-long, one-is}
 use Rattle.exact.specs.Numbers.{minus}
 use Rattle.exact.specs.Atoms.{atom_at, Spot, put_of}
-use Rattle.exact.specs.declared.Outcome.{Outcome}
-use Rattle.exact.specs.declared.Outcome.TheVariants.{True, False, New}
+use Rattle.exact.specs.declared.Put.{Put}
+use Rattle.exact.specs.declared.Put.TheVariants.{Decided, New, Large}
 use Rattle.exact.proofs.Rows.{length-minus, length-single}
-use Rattle.exact.proofs.Atoms.{atom-nine}
 use Rattle.rules.specs.Pushing.{under, two, push_atom, push_window, push, pushs}
 use Rattle.replacement.specs.Listing.{Come, truth, kept, big, Tally, over, going, add, tally, close, bytes_of}
 use Rattle.replacement.specs.Copying.{came}
 use Rattle.replacement.proofs.listing.Members.{snoc-long}
-use Rattle.replacement.proofs.copying.Settling.{come_as, came-atom, came_all, came-list}
+use Rattle.replacement.proofs.copying.Settling.{come_as, came-atom, new-nine, came_all, came-list}
 
 abbrev tally_size : Tally → ℕ
 tally_size over = 0
@@ -27,14 +26,12 @@ tally_size (going x gs) = length (encodes gs)
 
 pub atom-size : (q : Spot) (c : Comparison) (ns : List ℤ) → length ns ≡ 9 → length (bytes_of (came q (atom c ns))) ≤ 40
 atom-size q c ns n =
-    let r = put_of (atom_at q c ns) in
-    omega (arith, ap (λ (y : Come). length (bytes_of y)) (came-atom q c ns r refl r.outcome r.fits refl refl), go r.outcome r.fits r.nums (atom-nine q c ns n))
+    omega (arith, ap (λ (y : Come). length (bytes_of y)) (came-atom q c ns refl), go (put_of (atom_at q c ns)) refl)
   where
-    go : (y : Outcome) (b : Bool) (k : List ℤ) → length k ≡ 9 → length (bytes_of (come_as y b (atom c k))) ≤ 40
-    go True b k m = omega arith
-    go False b k m = omega arith
-    go New true k m = omega (arith, atom-long c k m)
-    go New false k m = omega arith
+    go : (r : Put) → put_of (atom_at q c ns) ≡ r → length (bytes_of (come_as c r)) ≤ 40
+    go (Decided v) e = omega arith
+    go (New ks) e = omega (arith, atom-long c ks (new-nine q c ns n e))
+    go (Large ks) e = omega arith
 
 add-size : (all : Bool) (t : Tally) (c : Come) → tally_size (add all t c) ≤ tally_size t + length (bytes_of c)
 add-size all over c = omega arith

@@ -5,6 +5,7 @@ use mathlib.Core.Bool.{Bool}
 use mathlib.Core.List.{List}
 use Prim.Native.Nat.{ℕ, ◌+◌, ◌-◌, ◌*◌, ◌≤◌, ◌<◌}
 use native.Mathlib.Omega.{arith}
+use Rattle.std.specs.Prelude.{Ok, Err}
 use lib.ListN.{length, take, drop}
 use Rattle.reading.specs.Formula.{Formula, not, encode, Free}
 use Rattle.reading.specs.Reading.{tree_of}
@@ -15,14 +16,16 @@ use Rattle.reading.proofs.Trees.{tree_is, begins-tree}
 use Rattle.reading.proofs.Walking.{Inner, inner_of}
 use Rattle.exact.specs.declared.Point.{Point}
 use Rattle.exact.specs.Atoms.{spot_of}
-use Rattle.replacement.specs.Listing.{after_of, Come, Wrote, used_of}
+use Rattle.replacement.specs.Listing.{Come, big, Wrote}
 use Rattle.rules.specs.Pushing.{push}
 use Rattle.rules.specs.Copies.{fits}
 use Rattle.replacement.specs.Marking.{Marked, HasMarks}
 use Rattle.replacement.specs.declared.Way.{Way}
 use Rattle.replacement.specs.Copying.{came, Asks}
 use Rattle.replacement.specs.declared.Copied.{Copied}
-use Rattle.replacement.proofs.listing.Members.{used_le, wrote_after}
+use Rattle.replacement.specs.declared.TooBig.{TooBig}
+use Rattle.replacement.proofs.Outcomes.{big-is, big-front}
+use Rattle.replacement.proofs.listing.Members.{used-is, wrote_after}
 use Rattle.replacement.proofs.copying.Settling.{retold}
 
 not-pushed : (neg : Bool) (f : Formula) → push neg (not f) ≡ push (Bool.not neg) f
@@ -30,10 +33,10 @@ unfolding push
 not-pushed neg f = refl
 
 -- the marks of a part
-pub has-marks : {x : ℕ} {ms : List ℕ} (p : List ℕ) {n : ℕ} {f : Formula} → length p ≡ n → tree_of p ≡ f → n < 40 * length ms → Marked x ms n f → HasMarks x p ms
+pub has-marks : {x : ℕ} {ms : List Bool} (p : List ℕ) {n : ℕ} {f : Formula} → length p ≡ n → tree_of p ≡ f → n < 40 * length ms → Marked x ms n f → HasMarks x p ms
 has-marks {x} {ms} p {n} {f} e t h m = record { room = omega (arith, e, h); marked = subst (λ (k : ℕ). Marked x ms k (tree_of p)) (sym e) (subst (Marked x ms n) (sym t) m) }
 
-module _ {s : List ℕ} {neg : Bool} {way : Way} {q : Point} {to n : ℕ} {ms : List ℕ} (a : Asks s neg way q to n ms) (h : shape_of (tree_of s) ≡ Shape.Not) where
+module _ {s : List ℕ} {neg : Bool} {way : Way} {q : Point} {to n : ℕ} {ms : List Bool} (a : Asks s neg way q to n ms) (h : shape_of (tree_of s) ≡ Shape.Not) where
   inside : Inner s
   inside = inner_of a.begins a.free h
 
@@ -53,9 +56,13 @@ module _ {s : List ℕ} {neg : Bool} {way : Way} {q : Point} {to n : ℕ} {ms : 
     room = omega (arith, a.room, inside.long, ap (λ (y : Formula). length (encode y)) inside-tree);
   }
 
-  pub under-used : (c : Come) (o₀ o : List ℕ) (r : Copied) → Wrote c (length (encode (tree_of (take (length s - 4) (drop 4 s))))) to o₀ o r → 4 + used_of r ≤ length s
-  under-used c o₀ o r w = omega (arith, used_le c _ to o₀ o r w, inside.long, ap (λ (y : Formula). length (encode y)) inside-tree, inside.within)
+  pub under-used : (c : Come) (o₀ o : List ℕ) (r : Copied) → Wrote c (length (encode (tree_of (take (length s - 4) (drop 4 s))))) to o₀ o (Ok r) → 4 + r.used ≤ length s
+  under-used c o₀ o r w = omega (arith, used-is c _ to o₀ o r w, inside.long, ap (λ (y : Formula). length (encode y)) inside-tree, inside.within)
 
-  pub under-wrote : (o₀ o : List ℕ) (r : Copied) → Wrote (came (spot_of q) (push (Bool.not neg) (tree_of (take (length s - 4) (drop 4 s))))) (length (encode (tree_of (take (length s - 4) (drop 4 s))))) to o₀ o r
-      → Wrote (came (spot_of q) (push neg (tree_of s))) (length (encode (tree_of s))) to o₀ o (after_of 4 r)
+  pub under-wrote : (o₀ o : List ℕ) (r : Copied) → Wrote (came (spot_of q) (push (Bool.not neg) (tree_of (take (length s - 4) (drop 4 s))))) (length (encode (tree_of (take (length s - 4) (drop 4 s))))) to o₀ o (Ok r)
+      → Wrote (came (spot_of q) (push neg (tree_of s))) (length (encode (tree_of s))) to o₀ o (Ok (record { used = 4 + r.used; came = r.came }))
   under-wrote o₀ o r w = retold (spot_of q) under-pushed (ap (λ (y : Formula). 4 + length (encode y)) inside-tree ∙ sym inside.long) (wrote_after 4 _ _ to o₀ o r w)
+
+  pub under-big : (o₀ o : List ℕ) (e : TooBig) → Wrote (came (spot_of q) (push (Bool.not neg) (tree_of (take (length s - 4) (drop 4 s))))) (length (encode (tree_of (take (length s - 4) (drop 4 s))))) to o₀ o (Err e)
+      → (came (spot_of q) (push neg (tree_of s)) ≡ big) × (take to o ≡ take to o₀)
+  under-big o₀ o e w = let b = big-is _ _ to o₀ o e w in (ap (came (spot_of q)) (sym under-pushed) ∙ b, big-front w)

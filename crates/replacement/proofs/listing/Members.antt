@@ -6,15 +6,16 @@ use mathlib.Core.List.{List, [], ◌++◌, append_assoc, append-nil}
 use Prim.Native.Nat.{ℕ, ◌+◌, ◌-◌, ◌≤◌}
 use native.Mathlib.Nat.{add-zero}
 use native.Mathlib.Omega.{arith}
+use Rattle.std.specs.Prelude.{Ok}
 use lib.ListN.{length, take, drop, length-append}
-use lib.Seq.{take-add}
+use lib.Seq.{paste, take-add, take_at, length-take-le}
 use Rattle.reading.specs.Formula.{Formula, Formulas, list, none, more, encode, encodes, count, record_bytes, field_bytes}
 use Rattle.reading.proofs.Lengths.{one-is}
 use Rattle.writing.specs.Writing.{lay, list_bytes}
-use Rattle.replacement.specs.Listing.{Come, truth, kept, big, going, snoc, add, close_of, bytes_of, Wrote, opened_of, decided_of, kept_of, taken_of, big_of, used_of, after_of, At}
+use Rattle.replacement.specs.Listing.{Come, truth, kept, big, going, snoc, add, close_of, bytes_of, Wrote, opened_of, decided_of, kept_of, taken_of, decided_as, kept_as, At}
 use Rattle.replacement.specs.declared.Copied.{Copied}
-use Rattle.replacement.specs.declared.Copied.TheVariants.{Decided, Kept, Big}
 use Rattle.replacement.specs.declared.Open.{Open}
+use Rattle.replacement.proofs.Outcomes.{ok-is, not-ok}
 use Rattle.writing.proofs.Lay.{lay-take, lay-drop, keeps, cancel}
 
 -- ---- members and their bytes
@@ -77,37 +78,25 @@ pub record Taken (l : Open) (gs : Formulas) (to : ℕ) (o₀ o : List ℕ) (c : 
   pub end : l'.end ≡ l.end + length (bytes_of c)
 
 pub at-taken : (l : Open) (gs : Formulas) (to : ℕ) (o₀ o o' : List ℕ) (c : Come) (used : ℕ) (r : Copied) → At l gs to o₀ o → length o' ≡ length o → l.end + length (bytes_of c) ≤ length o
-    → Wrote c used l.end o o' r → big_of r ≡ false → Taken l gs to o₀ o' c (taken_of l r)
-at-taken l gs to o₀ o o' (truth v) used r a s q w n =
-    subst (λ (y : Copied). Taken l gs to o₀ o' (truth v) (taken_of l y)) (sym w.answer)
+    → Wrote c used l.end o o' (Ok r) → Taken l gs to o₀ o' c (taken_of l r.came)
+at-taken l gs to o₀ o o' (truth v) used r a s q w =
+    subst (λ (y : Copied). Taken l gs to o₀ o' (truth v) (taken_of l y.came)) (sym (ok-is w.answer))
     (record { members = gs; is = refl; written = at-decided l gs to o₀ o o' v a s w.bytes; same = refl; few = omega arith; end = sym (add-zero l.end) })
-at-taken l gs to o₀ o o' (kept g) used r a s q w n =
-    subst (λ (y : Copied). Taken l gs to o₀ o' (kept g) (taken_of l y)) (sym w.answer)
+at-taken l gs to o₀ o o' (kept g) used r a s q w =
+    subst (λ (y : Copied). Taken l gs to o₀ o' (kept g) (taken_of l y.came)) (sym (ok-is w.answer))
     (record { members = snoc gs g; is = refl; written = at-kept l gs g to o₀ o o' a s q w.bytes; same = refl; few = omega (arith, count-snoc gs g); end = refl })
-at-taken l gs to o₀ o o' big used r a s q w n = let z : true ≡ false = sym (ap big_of w.answer) ∙ n in let y : ◌≡◌ {A = ℕ} 0 1 = cc in absurd (omega arith)
+at-taken l gs to o₀ o o' big used r a s q w = absurd (not-ok w.answer)
 
--- a member that is too big
--- an answer of another kind, by the number of its kind
-pub not-big : (r : Copied) → (r ≡ Big → ⊥) → big_of r ≡ false
-not-big (Decided used v) h = refl
-not-big (Kept used e) h = refl
-not-big Big h = absurd (h refl)
+-- the bytes that an answer says were read; a refusal says nothing of them
+pub used-is : (c : Come) (used to : ℕ) (o₀ o : List ℕ) (r : Copied) → Wrote c used to o₀ o (Ok r) → r.used ≡ used
+used-is (truth v) used to o₀ o r w = ap (λ (y : Copied). y.used) (ok-is w.answer)
+used-is (kept g) used to o₀ o r w = ap (λ (y : Copied). y.used) (ok-is w.answer)
+used-is big used to o₀ o r w = absurd (not-ok w.answer)
 
--- the bytes that an answer says were read
-pub used-is : (c : Come) (used to : ℕ) (o₀ o : List ℕ) (r : Copied) → Wrote c used to o₀ o r → big_of r ≡ false → used_of r ≡ used
-used-is (truth v) used to o₀ o r w e = ap used_of w.answer
-used-is (kept g) used to o₀ o r w e = ap used_of w.answer
-used-is big used to o₀ o r w e = let z : true ≡ false = sym (ap big_of w.answer) ∙ e in let y : ◌≡◌ {A = ℕ} 0 1 = cc in absurd (omega arith)
-
-pub wrote_after : (n : ℕ) (c : Come) (used to : ℕ) (o₀ o : List ℕ) (r : Copied) → Wrote c used to o₀ o r → Wrote c (n + used) to o₀ o (after_of n r)
-wrote_after n (truth v) used to o₀ o r w = record { answer = ap (after_of n) w.answer; bytes = w.bytes }
-wrote_after n (kept g) used to o₀ o r w = record { answer = ap (after_of n) w.answer; bytes = w.bytes }
-wrote_after n big used to o₀ o r w = record { answer = ap (after_of n) w.answer; bytes = w.bytes }
-
-pub used_le : (c : Come) (used to : ℕ) (o₀ o : List ℕ) (r : Copied) → Wrote c used to o₀ o r → used_of r ≤ used
-used_le (truth v) used to o₀ o r w = omega (arith, ap used_of w.answer)
-used_le (kept g) used to o₀ o r w = omega (arith, ap used_of w.answer)
-used_le big used to o₀ o r w = omega (arith, ap used_of w.answer)
+pub wrote_after : (n : ℕ) (c : Come) (used to : ℕ) (o₀ o : List ℕ) (r : Copied) → Wrote c used to o₀ o (Ok r) → Wrote c (n + used) to o₀ o (Ok (record { used = n + r.used; came = r.came }))
+wrote_after n (truth v) used to o₀ o r w = record { answer = ap (λ (y : Copied). Ok (record { used = n + y.used; came = y.came })) (ok-is w.answer); bytes = w.bytes }
+wrote_after n (kept g) used to o₀ o r w = record { answer = ap (λ (y : Copied). Ok (record { used = n + y.used; came = y.came })) (ok-is w.answer); bytes = w.bytes }
+wrote_after n big used to o₀ o r w = absurd (not-ok w.answer)
 
 -- ---- the list rule
 
@@ -124,38 +113,42 @@ pub nothing : (to : ℕ) (o₀ o : List ℕ) → take to o ≡ take to o₀ → 
 nothing to o₀ o e = ap (λ (n : ℕ). take n o) (add-zero to) ∙ e ∙ sym (append-nil (take to o₀))
 
 module _ (l : Open) (gs : Formulas) (to used : ℕ) (o₀ o : List ℕ) (a : At l gs to o₀ o) where
-  pub closed-fixed : l.fixed ≡ true → Wrote (close_of l.all l.fixed gs) used to o₀ o (Decided used (Bool.not l.all))
-  closed-fixed e = subst (λ (x : Bool). Wrote (close_of l.all x gs) used to o₀ o (Decided used (Bool.not l.all))) (sym e) (record { answer = refl; bytes = nothing to o₀ o a.front })
+  pub closed-fixed : l.fixed ≡ true → Wrote (close_of l.all l.fixed gs) used to o₀ o (decided_as used (Bool.not l.all))
+  closed-fixed e = subst (λ (x : Bool). Wrote (close_of l.all x gs) used to o₀ o (decided_as used (Bool.not l.all))) (sym e) (record { answer = refl; bytes = nothing to o₀ o a.front })
 
-  pub closed_none : l.fixed ≡ false → l.kept ≡ 0 → Wrote (close_of l.all l.fixed gs) used to o₀ o (Decided used l.all)
-  closed_none e k = subst (λ (x : Bool). Wrote (close_of l.all x gs) used to o₀ o (Decided used l.all)) (sym e) (go gs (sym a.many ∙ k))
+  pub closed_none : l.fixed ≡ false → l.kept ≡ 0 → Wrote (close_of l.all l.fixed gs) used to o₀ o (decided_as used l.all)
+  closed_none e k = subst (λ (x : Bool). Wrote (close_of l.all x gs) used to o₀ o (decided_as used l.all)) (sym e) (go gs (sym a.many ∙ k))
     where
-      go : (gs : Formulas) → count gs ≡ 0 → Wrote (close_of l.all false gs) used to o₀ o (Decided used l.all)
+      go : (gs : Formulas) → count gs ≡ 0 → Wrote (close_of l.all false gs) used to o₀ o (decided_as used l.all)
       go none h = record { answer = refl; bytes = nothing to o₀ o a.front }
       go (more g gs) h = absurd (omega arith)
 
   body_is : take (length (encodes gs)) (drop (to + 6) o) ≡ encodes gs
   body_is = cancel (to + 6) l.end o (encodes gs) (let u = a.until in let w = a.room in omega arith) a.until a.body
 
-  pub closed-one : (o' : List ℕ) → l.fixed ≡ false → l.kept ≡ 1 → o' ≡ lay l.start (take (l.end - (l.start + 6)) (drop (l.start + 6) o)) o
-      → Wrote (close_of l.all l.fixed gs) used to o₀ o' (Kept used (l.end - 6))
+  pub closed-one : (o' : List ℕ) → l.fixed ≡ false → l.kept ≡ 1 → o' ≡ paste o l.start (drop (l.start + 6) o) (l.end - (l.start + 6))
+      → Wrote (close_of l.all l.fixed gs) used to o₀ o' (kept_as used (l.end - 6))
   closed-one o' e k p =
       let u = a.until in
       let w = a.room in
       let n : l.end - (to + 6) ≡ length (encodes gs) = omega arith in
-      let q : o' ≡ lay to (encodes gs) o = p ∙ ap (λ (m : ℕ). lay m (take (l.end - (m + 6)) (drop (m + 6) o)) o) a.from ∙ ap (λ (m : ℕ). lay to (take m (drop (to + 6) o)) o) n ∙ ap (λ (b : List ℕ). lay to b o) body_is in
       let f : l.end - 6 ≡ to + length (encodes gs) = omega arith in
-      let t : take (to + length (encodes gs)) o' ≡ take to o₀ ++ encodes gs = ap (take (to + length (encodes gs))) q ∙ lay-take to (encodes gs) o (omega arith) ∙ ap (λ (x : List ℕ). x ++ encodes gs) a.front in
-      subst (λ (x : Bool). Wrote (close_of l.all x gs) used to o₀ o' (Kept used (l.end - 6))) (sym e) (go gs (sym a.many ∙ k) f t)
+      let q : o' ≡ (take to o ++ encodes gs) ++ drop (to + length (encodes gs)) o =
+      p ∙ ap (λ (m : ℕ). paste o m (drop (m + 6) o) (l.end - (m + 6))) a.from ∙ ap (paste o to (drop (to + 6) o)) n
+      ∙ ap (λ (x : List ℕ). (take to o ++ x) ++ drop (to + length (encodes gs)) o) body_is in
+      let h : length (take to o ++ encodes gs) ≡ to + length (encodes gs) = length-append (take to o) (encodes gs) ∙ ap (λ (m : ℕ). m + length (encodes gs)) (length-take-le to o (omega arith)) in
+      let t : take (to + length (encodes gs)) o' ≡ take to o₀ ++ encodes gs =
+      ap (take (to + length (encodes gs))) q ∙ take_at (take to o ++ encodes gs) (drop (to + length (encodes gs)) o) (to + length (encodes gs)) h ∙ ap (λ (x : List ℕ). x ++ encodes gs) a.front in
+      subst (λ (x : Bool). Wrote (close_of l.all x gs) used to o₀ o' (kept_as used (l.end - 6))) (sym e) (go gs (sym a.many ∙ k) f t)
     where
-      go : (gs : Formulas) → count gs ≡ 1 → l.end - 6 ≡ to + length (encodes gs) → take (to + length (encodes gs)) o' ≡ take to o₀ ++ encodes gs → Wrote (close_of l.all false gs) used to o₀ o' (Kept used (l.end - 6))
+      go : (gs : Formulas) → count gs ≡ 1 → l.end - 6 ≡ to + length (encodes gs) → take (to + length (encodes gs)) o' ≡ take to o₀ ++ encodes gs → Wrote (close_of l.all false gs) used to o₀ o' (kept_as used (l.end - 6))
       go none h f t = absurd (omega arith)
       go (more g none) h f t =
-          record { answer = ap (Kept used) (f ∙ ap (λ (b : List ℕ). to + length b) (one-is g)); bytes = subst (λ (b : List ℕ). take (to + length b) o' ≡ take to o₀ ++ b) (one-is g) t }
+          record { answer = ap (kept_as used) (f ∙ ap (λ (b : List ℕ). to + length b) (one-is g)); bytes = subst (λ (b : List ℕ). take (to + length b) o' ≡ take to o₀ ++ b) (one-is g) t }
       go (more g (more h gs)) k f t = absurd (omega arith)
 
   pub closed-many : (o' : List ℕ) → l.fixed ≡ false → (l.kept ≡ 0 → ⊥) → (l.kept ≡ 1 → ⊥) → o' ≡ lay l.start (list_bytes l.all l.kept) o
-      → Wrote (close_of l.all l.fixed gs) used to o₀ o' (Kept used l.end)
+      → Wrote (close_of l.all l.fixed gs) used to o₀ o' (kept_as used l.end)
   closed-many o' e k k' p =
       let u = a.until in
       let w = a.room in
@@ -169,12 +162,12 @@ module _ (l : Open) (gs : Formulas) (to used : ℕ) (o₀ o : List ℕ) (a : At 
       let t : take (to + length (h ++ encodes gs)) o' ≡ take to o₀ ++ (h ++ encodes gs) =
       ap (λ (m : ℕ). take m o') i ∙ take-add (to + 6) (length (encodes gs)) o'
       ∙ ap₂ ◌++◌ x (ap (take (length (encodes gs))) y ∙ body_is) ∙ append_assoc (take to o₀) h (encodes gs) in
-      subst (λ (x : Bool). Wrote (close_of l.all x gs) used to o₀ o' (Kept used l.end)) (sym e) (go gs (λ j. k (a.many ∙ j)) (λ j. k' (a.many ∙ j)) f t)
+      subst (λ (x : Bool). Wrote (close_of l.all x gs) used to o₀ o' (kept_as used l.end)) (sym e) (go gs (λ j. k (a.many ∙ j)) (λ j. k' (a.many ∙ j)) f t)
     where
       go : (gs : Formulas) → (count gs ≡ 0 → ⊥) → (count gs ≡ 1 → ⊥) → l.end ≡ to + length (list_bytes l.all (count gs) ++ encodes gs)
-          → take (to + length (list_bytes l.all (count gs) ++ encodes gs)) o' ≡ take to o₀ ++ (list_bytes l.all (count gs) ++ encodes gs) → Wrote (close_of l.all false gs) used to o₀ o' (Kept used l.end)
+          → take (to + length (list_bytes l.all (count gs) ++ encodes gs)) o' ≡ take to o₀ ++ (list_bytes l.all (count gs) ++ encodes gs) → Wrote (close_of l.all false gs) used to o₀ o' (kept_as used l.end)
       go none k k' f t = absurd (k refl)
       go (more g none) k k' f t = absurd (k' refl)
       go (more g (more h gs)) k k' f t =
           let m = more g (more h gs) in
-          record { answer = ap (Kept used) (f ∙ ap (λ (b : List ℕ). to + length b) (list-is l.all m)); bytes = subst (λ (b : List ℕ). take (to + length b) o' ≡ take to o₀ ++ b) (list-is l.all m) t }
+          record { answer = ap (kept_as used) (f ∙ ap (λ (b : List ℕ). to + length b) (list-is l.all m)); bytes = subst (λ (b : List ℕ). take (to + length b) o' ≡ take to o₀ ++ b) (list-is l.all m) t }

@@ -6,6 +6,7 @@ use mathlib.Core.Bool.{Bool, true, false, ◌&&◌, cond}
 use mathlib.Core.List.{List, [], ◌∷◌}
 use Prim.Native.Nat.{ℕ, ◌+◌, ◌*◌, ◌≤◌, ◌<◌}
 use native.Mathlib.Omega.{arith}
+use Rattle.std.specs.Prelude.{Ok, Err}
 use lib.IntN.{ℤ}
 use lib.ListN.{length, take, length-append}
 use Rattle.reading.specs.Limits.{result_bytes}
@@ -17,15 +18,18 @@ use Rattle.rules.specs.Copies.{copy, fits}
 use Rattle.rules.specs.Points.{terms, points, spot_fits}
 use Rattle.rules.specs.Steps.{copies, replacement, numbers_fit}
 use Rattle.writing.specs.Writing.{lay, list_bytes}
-use Rattle.replacement.specs.Listing.{Come, truth, kept, big, come_of, Tally, over, going, tally, close_of, bytes_of, big_of, Wrote, Closes}
+use Rattle.replacement.specs.Listing.{Come, truth, kept, big, come_of, Tally, over, going, tally, close_of, bytes_of, Wrote, Closes}
 use Rattle.replacement.specs.Copying.{came}
-use Rattle.replacement.specs.Trying.{Stays, Lists, try_all}
-use Rattle.replacement.specs.Replacing.{formula_for, Put, Closable, Replaces}
+use Rattle.replacement.specs.Trying.{Stays, Lists, Tells, try_all}
+use Rattle.replacement.specs.Replacing.{formula_for, Put, Closable, Replaces, MadeOf}
 use Rattle.replacement.specs.declared.Copied.{Copied}
-use Rattle.replacement.specs.declared.Copied.TheVariants.{Decided, Kept, Big}
+use Rattle.replacement.specs.declared.Came.TheVariants.{Decided, Kept}
+use Rattle.replacement.specs.declared.Body.{Body}
 use Rattle.replacement.specs.declared.Copies.{Copies}
+use Rattle.replacement.specs.declared.Unmade.{Unmade}
+use Rattle.replacement.specs.declared.Unmade.TheVariants.{Big, Short}
 use Rattle.writing.proofs.Lay.{lay-take}
-use Rattle.replacement.proofs.Outcomes.{sure-bytes, big-is, decided-is, kept-is, come-back}
+use Rattle.replacement.proofs.Outcomes.{sure-bytes, decided-is, kept-is, come-back}
 use Rattle.reading.proofs.Lengths.{four-long}
 use Rattle.replacement.proofs.listing.Tallying.{Ruled, ruled-none, ruled-more, rule-stay}
 use Rattle.replacement.proofs.trying.Joining.{over-long}
@@ -47,13 +51,13 @@ tally-is all qs p = ruled-copies all qs p false none
 
 -- ---- what is known of a list of copies
 
-over-told : (b : Bool) (all d : Bool) (s : Formulas) (c : Copies) (o₀ o : List ℕ) → Lists all (cond b (going d s) over) c o₀ o → c.big ≡ true → b ≡ false
-over-told true all d s c o₀ o l e = let a : c.big ≡ false = l.small in let z : ◌≡◌ {A = ℕ} 0 1 = cc in absurd (omega arith)
-over-told false all d s c o₀ o l e = refl
+over-told : (b : Bool) (d : Bool) (s : Formulas) → cond b (going d s) over ≡ over → b ≡ false
+over-told true d s e = let z : ◌≡◌ {A = ℕ} 0 1 = cc in absurd (omega arith)
+over-told false d s e = refl
 
-going-told : (b : Bool) (all d : Bool) (s : Formulas) (c : Copies) (o₀ o : List ℕ) → Lists all (cond b (going d s) over) c o₀ o → c.big ≡ false → (b ≡ true) × Lists all (going d s) c o₀ o
-going-told true all d s c o₀ o l e = (refl, l)
-going-told false all d s c o₀ o l e = let a : c.big ≡ true = l in let z : ◌≡◌ {A = ℕ} 0 1 = cc in absurd (omega arith)
+going-told : (b : Bool) (all d : Bool) (s : Formulas) (c : Copies) (o₀ o : List ℕ) → Lists all (cond b (going d s) over) c o₀ o → (b ≡ true) × Lists all (going d s) c o₀ o
+going-told true all d s c o₀ o l = (refl, l)
+going-told false all d s c o₀ o l = absurd l
 
 four-each : (gs : Formulas) → 4 * count gs ≤ length (encodes gs)
 unfolding encodes
@@ -73,16 +77,22 @@ pub record Copying (all : Bool) (x : ℕ) (f : Formula) (c : Copies) (o₀ o : L
   pub numbers : numbers_fit (points x (terms x f)) (push false f) ≡ true
   pub lists : Lists all (going (decided_by all (copies (points x (terms x f)) (push false f))) (stay (copies (points x (terms x f)) (push false f)))) c o₀ o
 
-module _ (all : Bool) (x : ℕ) (f : Formula) (rows : List (List ℤ)) (e : rows ≡ terms x f) (c : Copies) (o₀ o : List ℕ)
-    (l : Lists all (tally all (going false none) (try_all (points x rows) (push false f))) c o₀ o) where
-  told : Lists all (cond (numbers_fit (points x (terms x f)) (push false f)) (going (decided_by all (copies (points x (terms x f)) (push false f))) (stay (copies (points x (terms x f)) (push false f)))) over) c o₀ o
-  told = subst (λ (t : Tally). Lists all t c o₀ o) (ap (λ (us : List (List ℤ)). tally all (going false none) (try_all (points x us) (push false f))) e ∙ tally-is all (points x (terms x f)) (push false f)) l
+module _ (all : Bool) (x : ℕ) (f : Formula) (rows : List (List ℤ)) (e : rows ≡ terms x f) where
+  told : tally all (going false none) (try_all (points x rows) (push false f))
+      ≡ cond (numbers_fit (points x (terms x f)) (push false f)) (going (decided_by all (copies (points x (terms x f)) (push false f))) (stay (copies (points x (terms x f)) (push false f)))) over
+  told = ap (λ (us : List (List ℤ)). tally all (going false none) (try_all (points x us) (push false f))) e ∙ tally-is all (points x (terms x f)) (push false f)
 
-  pub too-big : c.big ≡ true → numbers_fit (points x (terms x f)) (push false f) ≡ false
-  too-big b = over-told (numbers_fit (points x (terms x f)) (push false f)) all _ _ c o₀ o told b
+  pub too-big : tally all (going false none) (try_all (points x rows) (push false f)) ≡ over → numbers_fit (points x (terms x f)) (push false f) ≡ false
+  too-big b = over-told (numbers_fit (points x (terms x f)) (push false f)) _ _ (sym told ∙ b)
 
-  pub copying : c.big ≡ false → Copying all x f c o₀ o
-  copying b = let t = going-told (numbers_fit (points x (terms x f)) (push false f)) all _ _ c o₀ o told b in record { numbers = t.0; lists = t.1 }
+  pub copying : (c : Copies) (o₀ o : List ℕ) → Lists all (tally all (going false none) (try_all (points x rows) (push false f))) c o₀ o → Copying all x f c o₀ o
+  copying c o₀ o l = let t = going-told (numbers_fit (points x (terms x f)) (push false f)) all _ _ c o₀ o (subst (λ (t : Tally). Lists all t c o₀ o) told l) in record { numbers = t.0; lists = t.1 }
+
+-- where the copies stop, so does the replacement, for the same reason
+pub made-stops : (all : Bool) (y : Body) (f : Formula) (rows : List (List ℤ)) → rows ≡ terms y.x f → (n : ℕ) (o₀ o : List ℕ) (u : Unmade)
+    → Tells all (tally all (going false none) (try_all (points y.x rows) (push false f))) y.bytes n o₀ o (Err u) → MadeOf all y f n o (Err u)
+made-stops all y f rows e n o₀ o Big h = too-big all y.x f rows e h
+made-stops all y f rows e n o₀ o Short h = h
 
 module _ {all : Bool} {x : ℕ} {f : Formula} {c : Copies} {o₀ o : List ℕ} (g : Copying all x f c o₀ o) where
   pub copying-closable : 6 ≤ length o → Closable c (length o)
@@ -122,23 +132,14 @@ put-over big o n h k = absurd (omega arith)
 pub put-large : (all x : Bool) (gs : Formulas) (o : List ℕ) (n : ℕ) → x ≡ false → result_bytes < length (encodes gs) → result_bytes < n → Put (formula_for (close_of all x gs)) o n
 put-large all x gs o n e h k = subst (λ (y : Bool). Put (formula_for (close_of all y gs)) o n) (sym e) (put-over (close_of all false gs) o n (over-long all gs h) k)
 
-never-big : (all x : Bool) (gs : Formulas) → close_of all x gs ≡ big → ⊥
-never-big all true gs e = let z : ◌≡◌ {A = ℕ} 0 1 = cc in omega arith
-never-big all false none e = let z : ◌≡◌ {A = ℕ} 0 1 = cc in omega arith
-never-big all false (more g none) e = let z : ◌≡◌ {A = ℕ} 0 1 = cc in omega arith
-never-big all false (more g (more h gs)) e = let z : ◌≡◌ {A = ℕ} 0 1 = cc in omega arith
-
 -- a list of copies, which `closed` has closed
 module _ (all x : Bool) (gs : Formulas) (c : Copies) (o₀ o o' : List ℕ) (r : Copied) (l : Lists all (going x gs) c o₀ o) (d : c.list.fixed ≡ false) (f : c.over ≡ false)
     (k : Closes c.list 0 o o' r) where
-  wrote : Wrote (close_of all x gs) 0 0 o₀ o' r
-  wrote = subst (λ (y : Bool). Wrote (close_of y x gs) 0 0 o₀ o' r) l.same (subst (λ (y : Bool). Wrote (close_of c.list.all y gs) 0 0 o₀ o' r) l.fixed (k gs 0 o₀ ((l.live (sym l.fixed ∙ d)).written f)))
+  wrote : Wrote (close_of all x gs) 0 0 o₀ o' (Ok r)
+  wrote = subst (λ (y : Bool). Wrote (close_of y x gs) 0 0 o₀ o' (Ok r)) l.same (subst (λ (y : Bool). Wrote (close_of c.list.all y gs) 0 0 o₀ o' (Ok r)) l.fixed (k gs 0 o₀ ((l.live (sym l.fixed ∙ d)).written f)))
 
-  pub closed_decided : (u : ℕ) (v : Bool) (o'' : List ℕ) (n : ℕ) → r ≡ Decided u v → Put (list v none) o'' n → Put (formula_for (close_of all x gs)) o'' n
-  closed_decided u v o'' n e p = subst (λ (g : Formula). Put g o'' n) (sym (decided-is (close_of all x gs) u v wrote e)) p
+  pub closed_decided : (v : Bool) (o'' : List ℕ) (n : ℕ) → r.came ≡ Decided v → Put (list v none) o'' n → Put (formula_for (close_of all x gs)) o'' n
+  closed_decided v o'' n e p = subst (λ (g : Formula). Put g o'' n) (sym (decided-is (close_of all x gs) v wrote e)) p
 
-  pub closed-kept : (u e : ℕ) → r ≡ Kept u e → Put (formula_for (close_of all x gs)) o' e
-  closed-kept u e h = let a = kept-is (close_of all x gs) u e wrote h in record { short = λ s. a; long = λ s. omega (arith, a.0) }
-
-  pub closed-big : {A : Type 0} → r ≡ Big → A
-  closed-big h = absurd (never-big all x gs (big-is (close_of all x gs) 0 0 o₀ o' r wrote (ap big_of h)))
+  pub closed-kept : (e : ℕ) → r.came ≡ Kept e → Put (formula_for (close_of all x gs)) o' e
+  closed-kept e h = let a = kept-is (close_of all x gs) e wrote h in record { short = λ s. a; long = λ s. omega (arith, a.0) }

@@ -1,12 +1,12 @@
 -- What a look over a body sees of its records one by one, it sees of the whole: what is seen of an atom and of a WINDOW stays seen, and at each record what is
 -- left is a list of formulas, which gives the whole once it is seen. And the test that no number is too big is the bound of `tame`.
-use mathlib.Core.Path.{◌≡◌, refl, sym, ◌∙◌, subst}
+use mathlib.Core.Path.{◌≡◌, refl, sym, ◌∙◌, ap, subst}
 use mathlib.Core.Bool.{Bool, true, false, cond, true≢false}
 use mathlib.Core.List.{List}
 use Prim.Native.Nat.{ℕ, zero, suc, ◌+◌, ◌*◌, ◌≤◌, ◌<◌, zero-le}
 use native.Mathlib.Nat.{le_refl, le_trans, mul-le-mul}
 use native.Mathlib.Omega.{arith}
-use borrow.Author.Tests.{le-leb, ltb-true, ltb-false}
+use borrow.Author.Tests.{le-leb, ltb-true, ltb-false, eq-eqb, ne_eqb}
 use lib.Dec.{eqb, ltb}
 use lib.ListN.{length, get_or-eq_default}
 use lib.IntN.{ℤ, pos, nat_abs}
@@ -66,6 +66,14 @@ left-more ns x {i} {m} {k} h l n j o = go (ltb j i) refl
     go : (b : Bool) → ltb j i ≡ b → nat_abs (left_at ns x j) ≤ k
     go true e = le_trans (h j (ltb-true j i e)) l
     go false e = subst (λ (y : ℕ). nat_abs (left_at ns x y) ≤ k) (omega (arith, o, ltb-false j i e)) n
+
+pub left-other : (ns : List ℤ) (x i : ℕ) → (i ≡ x → ⊥) → left_at ns x i ≡ at ns i
+unfolding left_at
+left-other ns x i h = ap (λ (b : Bool). cond b (pos 0) (at ns i)) (ne_eqb i x h)
+
+pub left-self : (ns : List ℤ) (x i : ℕ) → i ≡ x → left_at ns x i ≡ pos 0
+unfolding left_at
+left-self ns x i e = ap (λ (b : Bool). cond b (pos 0) (at ns i)) (eq-eqb i x e)
 
 -- past the end each is 0
 pub left-all : (ns : List ℤ) (x : ℕ) {i m : ℕ} → length ns ≤ i → ((j : ℕ) → j < i → nat_abs (left_at ns x j) ≤ m) → (j : ℕ) → nat_abs (left_at ns x j) ≤ m

@@ -15,10 +15,10 @@ use Rattle.reading.specs.Limits.{M, most_terms, result_bytes}
 use Rattle.reading.specs.Formula.{Comparison, less, atmost, equal, Formula, Formulas, atom, not, list, quant, window, none, more, count, atom_l, encode, AllM, InRange, Free, AllFree}
 use Rattle.exact.specs.Numbers.{at, Each, minus, single}
 use Rattle.exact.specs.Divisor.{reduced}
-use Rattle.exact.specs.Atoms.{put_of, holds, no_variable, Came, sure, new, settled, Spot, nowhere, atom_at, fitting}
+use Rattle.exact.specs.Atoms.{holds, no_variable, Came, sure, new, settled, Spot, nowhere, atom_at, fitting}
 use Rattle.exact.proofs.Sizes.{abs_neg}
 use Rattle.exact.proofs.Rows.{each-zeros, each_set, all-each, each_all, each-reduced, each-minus, length-minus, length-single, all_m-each, each-all_m}
-use Rattle.exact.proofs.Atoms.{atom-nine}
+use Rattle.exact.proofs.Atoms.{Nine, atom-nine}
 use Rattle.rules.specs.Pushing.{under, push_atom, push_window, push, pushs}
 use Rattle.rules.specs.Lists.{Known, decided, unknown, known, sure_record, decided_by, keep, stay, closed, listed}
 use Rattle.rules.specs.Copies.{atom_by, copy, copy_all, fits, fit_all}
@@ -169,7 +169,7 @@ listed_free all fs w = go (decided_by all fs)
 -- ---- an atom at a spot
 
 -- decided it is a list of none; a new atom has nine numbers
-came-fits : (d : ℕ) (c : Comparison) (k : Came) → 1 ≤ d → length (put_of k).nums ≡ 9 → fitting k ≡ true → Wide d (atom_by k c)
+came-fits : (d : ℕ) (c : Comparison) (k : Came) → 1 ≤ d → Nine k → fitting k ≡ true → Wide d (atom_by k c)
 came-fits d c (sure b) h n e = (h, omega arith, tt)
 came-fits d c (new ns) h n e = (h, (n, each-all_m ns (all-each M ns e)))
 

@@ -29,8 +29,8 @@ returns-then-lo-p c =
     let v = rd-at c.requires.each tt i.variable in
     ap₂ le_z v above ∙ sym (ap (λ (t : Bool). t && le_z (at w i.variable) (i.hi *ℤ at w 8)) (sym (ap₂ le_z (below (goal.at.returns-then-lo-p c).After-added-lo) v) ∙ c.if-lo-p.true))
 
-pub returns : goal.returns
-returns c = let i = c.args.b in
+pub returns-else-lo-p : goal.returns-else-lo-p
+returns-else-lo-p c = let i = c.args.b in
     let w = c.args.w in
     let v = rd-at c.requires.each tt i.variable in
-    sym (ap (λ (t : Bool). t && le_z (at w i.variable) (i.hi *ℤ at w 8)) (sym (ap₂ le_z (below (goal.at.returns c).After-added-lo) v) ∙ c.if-lo-p.false))
+    c.if-lo-p.false ∙ sym (ap (λ (t : Bool). t && le_z (at w i.variable) (i.hi *ℤ at w 8)) (sym (ap₂ le_z (below (goal.at.returns-else-lo-p c).After-added-lo) v) ∙ c.if-lo-p.false))

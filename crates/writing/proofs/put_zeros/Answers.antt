@@ -1,11 +1,12 @@
--- `put_zeros`: the zeros that are left, laid over what is there now, give the whole.
-use native.Mathlib.Omega.{arith}
-use lib.ListN.{length-set}
-use Rattle.writing.proofs.Lay.{zeros-turn, zeros-end}
+-- `put_zeros`: the zeros stand between what was before and after them.
+use Rattle.std.proofs.Common.{rules, ℕ, ap, ◌∙◌, arith, replicate, length, ◌≡◌, ◌-◌}
+use Rattle.std.proofs.lemmas.List.{length-replicate}
+use Rattle.reading.specs.Bytes.{zeros}
+use Rattle.writing.proofs.Lay.{lay-mid}
+use Rattle.writing.proofs.Moving.{part-long}
 use Rattle.writing.proofs.put_zeros.Goals as goal
 
-pub loop-i-preserved : goal.loop-i-preserved
-loop-i-preserved c = (omega arith, omega arith, simp length-set c.loop-i.invariant.2, zeros-turn _ _ _ _ c.loop-i-test.true c.loop-i.invariant.3)
-
 pub returns : goal.returns
-returns c = zeros-end _ _ _ _ c.loop-i-test.false c.loop-i.invariant.3
+returns c =
+    let long : length (zeros (c.args.to - c.args.from)) ≡ c.args.to - c.args.from = length-replicate _ _ in
+    lay-mid _ _ (zeros (c.args.to - c.args.from)) _ _ (c.fill.ensures.after (λ y k. search rules) ∙ ap (λ (n : ℕ). replicate n 0) (part-long c.args.from (c.args.to - c.args.from) c.args.d.now (omega arith))) (omega arith) (omega arith)

@@ -1,24 +1,25 @@
 -- `one_step`: what the record of the last quantifier says, the terms of its body, what is told of the body, and then the step.
-use mathlib.Core.Path.{◌≡◌, refl, sym, ◌∙◌, ap, ap₂, subst}
+use mathlib.Core.Path.{◌≡◌, sym, ◌∙◌, ap, ap₂, subst}
 use mathlib.Core.Bool.{true, true≢false}
 use mathlib.Core.List.{List}
 use Prim.Native.Nat.{ℕ, ◌+◌, ◌-◌, ◌≤◌, ◌<◌}
 use native.Mathlib.Omega.{arith}
-use lib.IntN.{ℤ, pos}
-use lib.ListN.{length, take, drop, replicate}
-use borrow.Author.Rules.{rules}
+use lib.IntN.{ℤ}
+use lib.ListN.{length, take, drop}
 use Rattle.reading.specs.Limits.{result_bytes, most_terms}
 use Rattle.reading.specs.Formula.{Formula, encode}
 use Rattle.reading.specs.Reading.{tree_of}
 use Rattle.reading.specs.declared.Binder.{Binder}
 use Rattle.reading.proofs.Looking.{Body, body_at}
-use Rattle.exact.proofs.Rows.{each-zeros}
 use Rattle.rules.specs.Points.{terms}
-use Rattle.elimination.specs.Stepping.{held}
-use Rattle.replacement.proofs.Outcomes.{rows_long, full-many, Found, fine-found}
+use Rattle.elimination.specs.Stepping.{held, Poised}
+use Rattle.std.specs.Prelude.{Ok, Err}
+use Rattle.rules.specs.Points as points
+use Rattle.replacement.specs.Gathering.{Table, Collected}
+use Rattle.replacement.proofs.Outcomes.{fine-is, fine-table, full-is, terms-are}
 use Rattle.elimination.proofs.stepping.WholeStep.{terms-many, terms-few, within, variable-low, quantifier-at, binder-said, part-tree, part-read, body-long, body-read, step-many, poised}
 use Rattle.elimination.proofs.stepping.one_step.Goals as goal
-use Rattle.elimination.proofs.stepping.one_step.Goals.{After-binder_at-b, In-Fine, Start}
+use Rattle.elimination.proofs.stepping.one_step.Goals.{After-binder_at-b, In-Ok, Start}
 
 abbrev last : (c : Start) → Body true (take c.args.len c.args.cur.now) c.args.o
 last c = body_at true c.requires.stands.exactly c.requires.cur_value
@@ -58,43 +59,21 @@ tree c =
     let part : List ℕ = take (c.args.len - (c.args.o + 6)) (drop (c.args.o + 6) c.args.cur.now) in
     let q = last in part-tree c.requires.stands q.is c.args.len fits (omega arith)
 
-found : (c : In-Fine) → let part : List ℕ = take (c.args.len - (c.args.o + 6)) (drop (c.args.o + 6) c.args.cur.now) in let f = tree_of part in Found c.binder_at-b.result.variable f (length (encode f)) c.gather-g.new.ts c.in-Fine.used c.in-Fine.n
-found c =
-    let part : List ℕ = take (c.args.len - (c.args.o + 6)) (drop (c.args.o + 6) c.args.cur.now) in
-    fine-found c.binder_at-b.result.variable (tree_of part) (replicate 640 (pos 0)) c.gather-g.ensures c.in-Fine.is
+-- what was gathered: the bytes of the body, and its terms
+gathered : (c : In-Ok) → let f = tree_of (take (c.args.len - (c.args.o + 6)) (drop (c.args.o + 6) c.args.cur.now)) in
+    (c.in-Ok.used ≡ length (encode f)) × (Table c.gather.new.ts.items × (c.gather.new.ts.items ≡ terms c.binder_at-b.result.variable f))
+gathered c = let t = subst (λ (us : List (List ℤ)). Collected (length (encode (tree_of (take (c.args.len - (c.args.o + 6)) (drop (c.args.o + 6) c.args.cur.now))))) (points.gather c.binder_at-b.result.variable (tree_of (take (c.args.len - (c.args.o + 6)) (drop (c.args.o + 6) c.args.cur.now))) us) c.gather.new.ts.items (Ok c.in-Ok.used)) c.new-ts.ensures c.in-Ok.ensures in
+    ((fine-is t).1, ((fine-table t).0, (fine-table t).1 ∙ terms-are c.binder_at-b.result.variable _))
 
-abbrev end : (c : In-Fine) → ℕ
-end c = c.args.o + 6 + c.in-Fine.used
-
-ends : (c : In-Fine) → let last : Body true (take c.args.len c.args.cur.now) c.args.o = body_at true c.requires.stands.exactly c.requires.cur_value in let end : ℕ = c.args.o + 6 + c.in-Fine.used in end ≡ c.args.o + 6 + length (encode last.body)
-ends c =
-    let part : List ℕ = take (c.args.len - (c.args.o + 6)) (drop (c.args.o + 6) c.args.cur.now) in
-    let found : let f = tree_of part in Found c.binder_at-b.result.variable f (length (encode f)) c.gather-g.new.ts c.in-Fine.used c.in-Fine.n = fine-found c.binder_at-b.result.variable (tree_of part) (replicate 640 (pos 0)) c.gather-g.ensures c.in-Fine.is in
-    let last : Body true (take c.args.len c.args.cur.now) c.args.o = body_at true c.requires.stands.exactly c.requires.cur_value in
-    let fits : c.args.o + 6 + length (encode last.body) ≤ c.args.len = let q = last in within c.requires.stands q.is in
-    let tree : tree_of part ≡ last.body = let q = last in part-tree c.requires.stands q.is c.args.len fits (omega arith) in
-    let end : ℕ = c.args.o + 6 + c.in-Fine.used in
-    ap (λ (m : ℕ). c.args.o + 6 + m) (found.bytes ∙ ap (λ (f : Formula). length (encode f)) tree)
-
-end-within : (c : In-Fine) → let end : ℕ = c.args.o + 6 + c.in-Fine.used in end ≤ c.args.len
-end-within c =
-    let part : List ℕ = take (c.args.len - (c.args.o + 6)) (drop (c.args.o + 6) c.args.cur.now) in
-    let found : let f = tree_of part in Found c.binder_at-b.result.variable f (length (encode f)) c.gather-g.new.ts c.in-Fine.used c.in-Fine.n = fine-found c.binder_at-b.result.variable (tree_of part) (replicate 640 (pos 0)) c.gather-g.ensures c.in-Fine.is in
-    let last : Body true (take c.args.len c.args.cur.now) c.args.o = body_at true c.requires.stands.exactly c.requires.cur_value in
-    let fits : c.args.o + 6 + length (encode last.body) ≤ c.args.len = let q = last in within c.requires.stands q.is in
-    let tree : tree_of part ≡ last.body = let q = last in part-tree c.requires.stands q.is c.args.len fits (omega arith) in
-    let end : ℕ = c.args.o + 6 + c.in-Fine.used in
-    let ends : end ≡ c.args.o + 6 + length (encode last.body) = ap (λ (m : ℕ). c.args.o + 6 + m) (found.bytes ∙ ap (λ (f : Formula). length (encode f)) tree) in
-    omega (arith, ends, fits)
+ends : (c : In-Ok) → let last : Body true (take c.args.len c.args.cur.now) c.args.o = body_at true c.requires.stands.exactly c.requires.cur_value in
+    tree_of (take (c.args.len - (c.args.o + 6)) (drop (c.args.o + 6) c.args.cur.now)) ≡ last.body → c.args.o + 6 + c.in-Ok.used ≡ c.args.o + 6 + length (encode last.body)
+ends c e = ap (λ (m : ℕ). c.args.o + 6 + m) ((gathered c).0 ∙ ap (λ (f : Formula). length (encode f)) e)
 
 pub slice_bounds-binder_at-count : goal.slice_bounds-binder_at-count
 slice_bounds-binder_at-count c = let i = inside (goal.at.slice_bounds-binder_at-count c).Start in omega (arith, i.0)
 
 pub slice_bounds-binder_at-start : goal.slice_bounds-binder_at-start
 slice_bounds-binder_at-start c = let i = inside (goal.at.slice_bounds-binder_at-start c).Start in omega (arith, i.0)
-
-pub slice_bounds-binder_at-end : goal.slice_bounds-binder_at-end
-slice_bounds-binder_at-end c = let i = inside (goal.at.slice_bounds-binder_at-end c).Start in omega (arith, i.1, i.2)
 
 pub binder_at-b-requires : goal.binder_at-b-requires
 binder_at-b-requires c = let q = last (goal.at.binder_at-b-requires c).Start in let asked = quantifier-at c.requires.stands q.is in record { begins = asked.0; quantifier = asked.1 }
@@ -108,54 +87,52 @@ slice_bounds-gather-count c = (inside (goal.at.slice_bounds-gather-count c).Star
 pub slice_bounds-gather-start : goal.slice_bounds-gather-start
 slice_bounds-gather-start c = (inside (goal.at.slice_bounds-gather-start c).Start).0
 
-pub slice_bounds-gather-end : goal.slice_bounds-gather-end
-slice_bounds-gather-end c = let i = inside (goal.at.slice_bounds-gather-end c).Start in omega (arith, i.1, i.2)
-
-pub slice_bounds-gather-end-2 : goal.slice_bounds-gather-end-2
-slice_bounds-gather-end-2 c = refl
-
-pub gather-g-requires : goal.gather-g-requires
-gather-g-requires c = let q = last (goal.at.gather-g-requires c).Start in
-    let s = part-read c.requires.stands q.is c.args.len (fits (goal.at.gather-g-requires c).Start) (omega arith) in
+pub gather-requires : goal.gather-requires
+gather-requires c = let q = last (goal.at.gather-requires c).Start in
+    let s = part-read c.requires.stands q.is c.args.len (fits (goal.at.gather-requires c).Start) (omega arith) in
     record {
       begins = s.0;
       free = s.1;
-      low = omega (arith, variable-is (goal.at.gather-g-requires c).After-binder_at-b, variable-low c.requires.stands q.is);
-      table = record { long = refl; few = omega arith; small = each-zeros 640 };
+      low = omega (arith, variable-is (goal.at.gather-requires c).After-binder_at-b, variable-low c.requires.stands q.is);
+      table = subst Table (sym c.new-ts.ensures) (record { few = omega arith; rows = tt });
     }
 
 pub overflow_add-e : goal.overflow_add-e
-overflow_add-e c = omega (arith, end-within (goal.at.overflow_add-e c).In-Fine, (inside (goal.at.overflow_add-e c).Start).1)
+overflow_add-e c = let p = goal.at.overflow_add-e c in omega (arith, ends p.In-Ok (tree p.Start), fits p.Start, (inside p.Start).1)
 
 pub slice_bounds-body_of-end : goal.slice_bounds-body_of-end
-slice_bounds-body_of-end c = let i = inside (goal.at.slice_bounds-body_of-end c).Start in
-    omega (arith, end-within (goal.at.slice_bounds-body_of-end c).In-Fine, i.1, i.2)
-
-pub slice_bounds-body_of-end-in-Fine : goal.slice_bounds-body_of-end-in-Fine
-slice_bounds-body_of-end-in-Fine c = refl
+slice_bounds-body_of-end c = let p = goal.at.slice_bounds-body_of-end c in
+    let i = inside p.Start in
+    omega (arith, ends p.In-Ok (tree p.Start), fits p.Start, i.1, i.2)
 
 pub body_of-body-requires : goal.body_of-body-requires
-body_of-body-requires c = let q = last (goal.at.body_of-body-requires c).Start in record { exactly = body-read c.requires.stands q.is (end (goal.at.body_of-body-requires c).In-Fine) (ends (goal.at.body_of-body-requires c).In-Fine); x_lt_variables = omega (arith, variable-is (goal.at.body_of-body-requires c).After-binder_at-b, variable-low c.requires.stands q.is); s_len_bound = omega (arith, body-long c.requires.stands q.is (end (goal.at.body_of-body-requires c).In-Fine) (ends (goal.at.body_of-body-requires c).In-Fine), fits (goal.at.body_of-body-requires c).Start, c.requires.stands.few) }
-
-pub step_with-r-requires : goal.step_with-r-requires
-step_with-r-requires c =
-    let long : 640 ≡ length c.gather-g.new.ts = search rules in
-    let q = last (goal.at.step_with-r-requires c).Start in record {
-      stands = c.requires.stands;
-      result_bytes_in_bounds = c.requires.result_bytes_in_bounds;
-      poised = poised c.requires.stands q.is c.binder_at-b.result c.body_of-body.result c.in-Fine.n c.in-Fine.used c.gather-g.new.ts c.body_of-body.new.marks (said (goal.at.step_with-r-requires c).After-binder_at-b)
-          c.body_of-body.ensures (found (goal.at.step_with-r-requires c).In-Fine) (record { long = sym long; few = (found (goal.at.step_with-r-requires c).In-Fine).most; small = c.gather-g.ensures.small });
+body_of-body-requires c = let p = goal.at.body_of-body-requires c in
+    let q = last p.Start in
+    let e = ends p.In-Ok (tree p.Start) in
+    record {
+      exactly = body-read c.requires.stands q.is (c.args.o + 6 + c.in-Ok.used) e;
+      x_lt_variables = omega (arith, variable-is p.After-binder_at-b, variable-low c.requires.stands q.is);
+      s_len_bound = omega (arith, body-long c.requires.stands q.is (c.args.o + 6 + c.in-Ok.used) e, fits p.Start, c.requires.stands.few);
     }
 
-pub returns-in-Full : goal.returns-in-Full
-returns-in-Full c = let q = last (goal.at.returns-in-Full c).Start in
-    let m : most_terms < length (terms q.variable q.body) = subst (λ (us : List (List ℤ)). most_terms < length us) (ap₂ terms (variable-is (goal.at.returns-in-Full c).After-binder_at-b) (tree (goal.at.returns-in-Full c).Start))
-    (full-many c.binder_at-b.result.variable (tree_of (part (goal.at.returns-in-Full c).Start)) (replicate 640 (pos 0)) c.gather-g.ensures c.in-Full.is) in
+pub step_with-r-requires-clause-poised : goal.step_with-r-requires-clause-poised
+step_with-r-requires-clause-poised c = let p = goal.at.step_with-r-requires-clause-poised c in
+    let q = last p.Start in
+    let g = gathered p.In-Ok in
+    subst (λ (ts : List (List ℤ)). Poised c.args.len c.args.o c.binder_at-b.result.every c.body_of-body.result c.args.cur.now ts c.body_of-body.new.marks) (sym c.deref.ensures.0)
+    (poised c.requires.stands q.is c.binder_at-b.result c.body_of-body.result c.in-Ok.used c.gather.new.ts.items c.body_of-body.new.marks (said p.After-binder_at-b) c.body_of-body.ensures g.0 g.1.0 g.1.1)
+
+pub returns-in-Err : goal.returns-in-Err
+returns-in-Err c = let p = goal.at.returns-in-Err c in
+    let q = last p.Start in
+    let t = subst (λ (us : List (List ℤ)). Collected (length (encode (tree_of (part p.Start)))) (points.gather c.binder_at-b.result.variable (tree_of (part p.Start)) us) c.gather.new.ts.items (Err c.in-Err.field-0)) c.new-ts.ensures c.in-Err.ensures in
+    let m : most_terms < length (terms q.variable q.body) = subst (λ (us : List (List ℤ)). most_terms < length us) (terms-are c.binder_at-b.result.variable _ ∙ ap₂ terms (variable-is p.After-binder_at-b) (tree p.Start)) (full-is t) in
     (record { tried = step-many c.requires.stands q.is c.args.work.now m; roomy = λ s. absurd (true≢false (sym s)) }, terms-many (held c.args.len c.args.cur.now) q.is m)
 
-pub returns-in-Fine : goal.returns-in-Fine
-returns-in-Fine c = let q = last (goal.at.returns-in-Fine c).Start in
-    let f = found (goal.at.returns-in-Fine c).In-Fine in (
+pub returns-in-Ok : goal.returns-in-Ok
+returns-in-Ok c = let p = goal.at.returns-in-Ok c in
+    let q = last p.Start in
+    let g = gathered p.In-Ok in (
       c.step_with-r.ensures,
-      terms-few (held c.args.len c.args.cur.now) q.is (sym (rows_long c.in-Fine.n c.gather-g.new.ts) ∙ ap length f.rows ∙ ap length (ap₂ terms (variable-is (goal.at.returns-in-Fine c).After-binder_at-b) (tree (goal.at.returns-in-Fine c).Start))) f.most,
+      terms-few (held c.args.len c.args.cur.now) q.is (c.len-in-Ok.ensures.value ∙ ap length (g.1.1 ∙ ap₂ terms (variable-is p.After-binder_at-b) (tree p.Start))) (omega (arith, c.len-in-Ok.ensures.value, g.1.0.few)),
     )

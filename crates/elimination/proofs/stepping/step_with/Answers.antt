@@ -47,7 +47,7 @@ pub returns-in-Refused : goal.returns-in-Refused
 returns-in-Refused c = record { tried = beside-as (goal.at.returns-in-Refused c).After-step_beside-r _ c.in-Refused.is; roomy = λ s. absurd (true≢false (sym s)) }
 
 pub step_apart-requires : goal.step_apart-requires
-step_apart-requires c = let u = untouched (goal.at.step_apart-requires c).Joined-fits_beside in record { stands = subst (Stands c.args.len) (sym u.0) c.requires.stands; result_bytes_in_bounds = omega (arith, u.2, c.requires.result_bytes_in_bounds); poised = subst (λ (l : List ℕ). Poised c.args.len c.args.o c.args.every c.args.body c.args.n l c.args.ts.now c.args.marks.now) (sym u.0) c.requires.poised }
+step_apart-requires c = let u = untouched (goal.at.step_apart-requires c).Joined-fits_beside in record { stands = subst (Stands c.args.len) (sym u.0) c.requires.stands; result_bytes_in_bounds = omega (arith, u.2, c.requires.result_bytes_in_bounds); poised = subst (λ (l : List ℕ). Poised c.args.len c.args.o c.args.every c.args.body l c.args.ts.now c.args.marks.now) (sym u.0) c.requires.poised }
 
 pub shape_of-cur : goal.shape_of-cur
 shape_of-cur c =

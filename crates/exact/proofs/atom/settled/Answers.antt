@@ -1,31 +1,26 @@
 -- `settled` meets its contract: decided where no variable is left, and otherwise reduced, with its size judged afterwards. Assumes nothing.
-use mathlib.Core.Path.{◌≡◌, sym, ◌∙◌, ap, subst}
-use lib.IntN.{ℤ}
-use mathlib.Core.Bool.{Bool}
-use native.Mathlib.Omega.{arith}
-use lib.ListN.{length}
-use lib.Seq.{length-take-le}
-use borrow.Author.Rules.{rules}
+use Rattle.std.proofs.Common.{◌≡◌, sym, ◌∙◌, ap, ap₂, Bool, ℤ, List, cond, true, false}
 use Rattle.reading.specs.Limits.{M}
-use Rattle.exact.specs.Numbers.{Each, all_in}
-use Rattle.exact.specs.Atoms.{sure, comparison_of, holds, put_of}
-use Rattle.exact.specs.declared.Outcome.TheVariants.{New}
-use Rattle.exact.proofs.Rows.{each-reduced, rd-at}
+use Rattle.reading.specs.Views.{comparison_in}
+use Rattle.exact.specs.Numbers.{all_in}
+use Rattle.exact.specs.Atoms.{holds, put_of, settled}
+use Rattle.exact.specs.declared.Put.TheVariants.{New, Large, Decided}
+use Rattle.exact.proofs.Rows.{rd-at}
 use Rattle.exact.proofs.Atoms.{settled-new, settled-sure}
 use Rattle.exact.proofs.atom.settled.Goals as goal
-
-pub slice_bounds-all_zero-end : goal.slice_bounds-all_zero-end
-slice_bounds-all_zero-end c = let n : length c.args.ns ≡ 9 = search rules in sym (length-take-le 8 c.args.ns (omega arith))
+use Rattle.exact.proofs.atom.settled.Goals.{After-within_all-fits}
 
 pub returns-then-all_zero : goal.returns-then-all_zero
-returns-then-all_zero c = c.decided.ensures
-    ∙ ap (λ (b : Bool). put_of (sure b)) (c.holds.ensures ∙ ap (λ (z : ℤ). holds (comparison_of c.args.kind) z) (rd-at c.requires tt 8))
-    ∙ sym (ap put_of (settled-sure _ _ (sym c.all_zero.ensures ∙ c.if-all_zero.true)))
+returns-then-all_zero c = ap Decided (c.holds.ensures ∙ ap (holds _) (rd-at c.requires tt 8)) ∙ ap put_of (sym (settled-sure _ _ (sym c.all_zero.ensures ∙ c.if-all_zero.true)))
 
-pub within_all-fits-requires : goal.within_all-fits-requires
-within_all-fits-requires c = let e = subst (Each 9223372036854775807) (sym c.reduce.ensures) (each-reduced c.requires) in
-    search (rules, e)
-
-pub returns : goal.returns
-returns c = (λ i. record { outcome = New; fits = (c.within_all-fits.ensures ∙ ap (all_in M) c.reduce.ensures) i; nums = c.reduce.ensures i })
+-- what the reduced numbers come out as, by their size
+sized : (c : After-within_all-fits) (b : Bool) → c.within_all-fits.result ≡ b → cond b (New c.reduce.new.s) (Large c.reduce.new.s) ≡ put_of (settled (comparison_in c.args.c) c.args.ns)
+sized c b e =
+    ap₂ (λ (t : Bool) (l : List ℤ). cond t (New l) (Large l)) (sym e ∙ c.within_all-fits.ensures ∙ ap (all_in M) c.reduce.ensures) c.reduce.ensures
     ∙ sym (ap put_of (settled-new _ _ (sym c.all_zero.ensures ∙ c.if-all_zero.false)))
+
+pub returns-then-fits : goal.returns-then-fits
+returns-then-fits c = sized (goal.at.returns-then-fits c).After-within_all-fits true c.if-fits.true
+
+pub returns-else-fits : goal.returns-else-fits
+returns-else-fits c = sized (goal.at.returns-else-fits c).After-within_all-fits false c.if-fits.false

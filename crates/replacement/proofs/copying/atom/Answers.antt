@@ -1,28 +1,31 @@
 -- `atom`: by what the arithmetic answers, and only a new atom that fits is written.
-use mathlib.Core.Path.{◌≡◌, refl}
-use mathlib.Core.Bool.{true, false}
-use native.Mathlib.Omega.{arith}
+use mathlib.Core.Path.{◌≡◌, refl, sym}
 use lib.ListN.{length}
 use borrow.Author.Rules.{rules}
-use Rattle.exact.specs.Atoms.{spot_of, comparison_of}
-use Rattle.exact.specs.declared.Outcome.TheVariants.{True, False, New}
-use Rattle.replacement.proofs.copying.Settling.{came-atom, wrote-truth, wrote-big, wrote-atom, new-each, new-nine}
+use Rattle.reading.specs.Formula.{atom}
+use Rattle.reading.specs.Views.{comparison_in}
+use Rattle.exact.specs.Atoms.{spot_of, put_of, atom_at}
+use Rattle.exact.specs.declared.Put.{Put}
+use Rattle.replacement.specs.Copying.{came}
+use Rattle.replacement.proofs.copying.Settling.{come_as, came-atom, wrote-truth, wrote-big, wrote-atom, new-each, new-nine}
 use Rattle.replacement.proofs.copying.atom.Goals as goal
+use Rattle.replacement.proofs.copying.atom.Goals.{Start}
 
-pub put_atom-requires : goal.put_atom-requires
-put_atom-requires c = record { at_in_bounds = (omega arith, omega arith); each = new-each (spot_of c.args.q) (comparison_of c.args.kind) c.args.ns c.atom_at-r.result c.atom_at-r.ensures c.if-r.true }
+-- how the atom comes out, by the answer
+comes : (c : Start) {r : Put} → let a = c.args in r ≡ put_of (atom_at (spot_of a.q) (comparison_in a.c) a.ns) → came (spot_of a.q) (atom (comparison_in a.c) a.ns) ≡ come_as (comparison_in a.c) r
+comes c = came-atom (spot_of c.args.q) (comparison_in c.args.c) c.args.ns
 
-pub returns-then-r : goal.returns-then-r
-returns-then-r c = let r = c.atom_at-r.result in
-    let nn : length c.args.ns ≡ 9 = search rules in
-    let n : length r.nums ≡ 9 = new-nine (spot_of c.args.q) (comparison_of c.args.kind) c.args.ns r c.atom_at-r.ensures nn in
-    wrote-atom c.args.kind r.nums c.args.used c.args.to c.args.out.now c.put_atom.new.d (came-atom (spot_of c.args.q) (comparison_of c.args.kind) c.args.ns r c.atom_at-r.ensures New true c.in-New.is c.if-r.true) c.requires.le_kind.0 c.requires.le_kind.1 n c.requires.atom_size_in_bounds c.put_atom.ensures
+pub put_atom-requires-clause-each : goal.put_atom-requires-clause-each
+put_atom-requires-clause-each c = new-each (spot_of c.args.q) (comparison_in c.args.c) c.args.ns (sym c.in-New.ensures)
 
-pub returns-in-True : goal.returns-in-True
-returns-in-True c = wrote-truth true c.args.used c.args.to c.args.out.now (came-atom (spot_of c.args.q) (comparison_of c.args.kind) c.args.ns c.atom_at-r.result c.atom_at-r.ensures True _ c.in-True.is refl)
+pub returns-in-Large : goal.returns-in-Large
+returns-in-Large c = wrote-big c.args.used c.args.to c.args.out.now c.args.out.now refl (comes (goal.at.returns-in-Large c).Start c.in-Large.ensures) refl
 
-pub returns-in-False : goal.returns-in-False
-returns-in-False c = wrote-truth false c.args.used c.args.to c.args.out.now (came-atom (spot_of c.args.q) (comparison_of c.args.kind) c.args.ns c.atom_at-r.result c.atom_at-r.ensures False _ c.in-False.is refl)
+pub returns-in-Decided : goal.returns-in-Decided
+returns-in-Decided c = wrote-truth _ c.args.used c.args.to c.args.out.now (comes (goal.at.returns-in-Decided c).Start c.in-Decided.ensures)
 
-pub returns-else-r : goal.returns-else-r
-returns-else-r c = wrote-big c.args.used c.args.to c.args.out.now c.args.out.now (came-atom (spot_of c.args.q) (comparison_of c.args.kind) c.args.ns c.atom_at-r.result c.atom_at-r.ensures New false c.in-New.is c.if-r.false) refl
+pub returns-in-New : goal.returns-in-New
+returns-in-New c =
+    let n : length c.args.ns ≡ 9 = search rules in
+    wrote-atom c.args.c c.in-New.k c.args.used c.args.to c.args.out.now c.put_atom.new.d (comes (goal.at.returns-in-New c).Start c.in-New.ensures)
+    (new-nine (spot_of c.args.q) (comparison_in c.args.c) c.args.ns n (sym c.in-New.ensures)) c.requires.atom_size_in_bounds c.put_atom.ensures

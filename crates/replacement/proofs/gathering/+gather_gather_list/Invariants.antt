@@ -1,15 +1,11 @@
 -- The terms of a formula: the walk of `Walking`, with the table as it is so far. The bytes that are left fall at each call.
-use Prim.Native.Nat.{◌+◌}
+use Prim.Native.Nat.{◌+◌, ◌-◌}
 use lib.ListN.{length}
-use Rattle.replacement.specs.Gathering.{rows_of}
 use Rattle.replacement.proofs.gathering.TermLaws.{GatherLoop}
 use Rattle.replacement.proofs.gathering.+gather_gather_list.Given as goal
 
-abbrev pub invariant-gather_list-loop-left : goal.invariant-gather_list-loop-left
-invariant-gather_list-loop-left l = GatherLoop l.s l.x (rows_of l.n l.initial.ts) l.ts l.m l.at l.left
-
-abbrev pub decreases-gather_list-loop-left : goal.decreases-gather_list-loop-left
-decreases-gather_list-loop-left l = l.left
+abbrev pub invariant-gather_list-loop : goal.invariant-gather_list-loop
+invariant-gather_list-loop l = GatherLoop l.s l.x l.initial.ts.items l.ts.items l.at (l.end - l.counter)
 
 abbrev pub decreases-gather : goal.decreases-gather
 decreases-gather l = length l.s.now + length l.s.now + 1

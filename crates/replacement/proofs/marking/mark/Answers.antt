@@ -34,8 +34,8 @@ slice_bounds-mark_of-start c = omega (arith, (turn (goal.at.slice_bounds-mark_of
 pub slice_bounds-mark_of-end : goal.slice_bounds-mark_of-end
 slice_bounds-mark_of-end c = omega (arith, (turn (goal.at.slice_bounds-mark_of-end c).In-loop-at).room)
 
-pub mark_of-m-requires : goal.mark_of-m-requires
-mark_of-m-requires c = record { begins = (turn (goal.at.mark_of-m-requires c).In-loop-at).begins; x_lt_variables = c.requires.x_lt_variables }
+pub mark_of-requires : goal.mark_of-requires
+mark_of-requires c = record { begins = (turn (goal.at.mark_of-requires c).In-loop-at).begins; x_lt_variables = c.requires.x_lt_variables }
 
 pub bounds-marks-i : goal.bounds-marks-i
 bounds-marks-i c = place (goal.at.bounds-marks-i c).In-loop-at
@@ -59,7 +59,7 @@ pub loop-at-smaller : goal.loop-at-smaller
 loop-at-smaller c = let t = turn (goal.at.loop-at-smaller c).In-loop-at in omega (arith, c.record_bytes-at.ensures, t.room, t.long)
 
 pub loop-at-preserved : goal.loop-at-preserved
-loop-at-preserved c = let m = c.mark_of-m in
+loop-at-preserved c = let m = c.mark_of in
     let l = c.loop-at in
     let a = c.args in (
       length-set l.marks ((length a.s.now - l.at) / 40) m.result ∙ l.invariant.0,

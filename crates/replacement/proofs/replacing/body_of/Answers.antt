@@ -1,8 +1,7 @@
 -- `body_of`: what the survey sees of the body; where it is tame, no number of the step is too big. From four terms on the atoms are marked.
 use mathlib.Core.Path.{◌≡◌, refl, sym, ◌∙◌, ap, subst}
-use mathlib.Core.Bool.{true}
+use mathlib.Core.Bool.{Bool, true}
 use mathlib.Core.List.{List}
-use Prim.Native.Nat.{ℕ}
 use native.Mathlib.Omega.{arith}
 use lib.Dec.{leb}
 use lib.ListN.{length}
@@ -22,13 +21,13 @@ table c =
     elim c.if-marked.branch [
       | then-marked w ↦ (
         ap length w.marks-is ∙ omega arith,
-        λ _. subst (λ (ms : List ℕ). Marked a.x ms (length a.s.now) (tree_of a.s.now)) (sym w.marks-is) w.mark.ensures,
+        λ _. subst (λ (ms : List Bool). Marked a.x ms (length a.s.now) (tree_of a.s.now)) (sym w.marks-is) w.mark.ensures,
       )
       | else-marked w ↦ (ap length w.marks-is, λ e. absurd (omega (arith, leb-true 4 a.n e)))
     ]
 
 pub survey-v-requires : goal.survey-v-requires
-survey-v-requires c = record { begins = (begins c.requires.exactly.0, c.requires.exactly.1); n_value = ap length c.requires.exactly.0.bytes; x_lt_variables = c.requires.x_lt_variables }
+survey-v-requires c = record { begins = (begins c.requires.exactly.0, c.requires.exactly.1); s_len = ap length c.requires.exactly.0.bytes; x_lt_variables = c.requires.x_lt_variables }
 
 pub mark-requires : goal.mark-requires
 mark-requires c = record { exactly = c.requires.exactly; x_lt_variables = c.requires.x_lt_variables; s_len_bound = c.requires.s_len_bound }

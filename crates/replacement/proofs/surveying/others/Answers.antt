@@ -1,40 +1,29 @@
--- `others`: after i turns m is at least each number before i.
-use mathlib.Core.Path.{◌≡◌, sym, ◌∙◌, ap, subst}
-use Prim.Native.Nat.{zero-le}
-use native.Mathlib.Nat.{le_trans, le_of_eq}
+-- `others`: a turn counts one number more, unless it is that of x.
+use mathlib.Core.Path.{◌≡◌, ◌∙◌, ap}
 use native.Mathlib.Omega.{arith}
 use lib.IntN.{nat_abs}
-use Rattle.reading.specs.Limits.{M}
-use Rattle.exact.specs.Numbers.{Within}
-use Rattle.exact.proofs.Sizes.{rd, fits, in-rd, in-more}
-use Rattle.exact.proofs.Terms.{in_left}
-use Rattle.replacement.proofs.surveying.SurveyLaws.{left-more, left-all}
+use Rattle.exact.specs.Numbers.{at}
+use Rattle.exact.specs.Terms.{left_at}
+use Rattle.exact.proofs.Rows.{rd-at}
+use Rattle.replacement.proofs.surveying.SurveyLaws.{left-more, left-all, left-other, left-self}
 use Rattle.replacement.proofs.surveying.others.Goals as goal
-use Rattle.replacement.proofs.surveying.others.Goals.{After-abs, After-left-z}
-
--- the number of a turn
-within : (c : After-left-z) → Within M c.left-z.result
-within c = subst (Within M) (sym c.left-z.ensures) (in_left c.args.x c.loop-i.i c.requires)
-
-size : (c : After-abs) → c.abs.result ≡ nat_abs c.left-z.result
-size c =
-    let within : Within M c.left-z.result = subst (Within M) (sym c.left-z.ensures) (in_left c.args.x c.loop-i.i c.requires) in
-    c.abs.ensures ∙ ap nat_abs (rd (fits within tt))
-
-pub loop-i-init : goal.loop-i-init
-loop-i-init c = (λ j h. absurd (omega (arith, h)), zero-le)
-
-pub left-z-requires : goal.left-z-requires
-left-z-requires c = c.loop-i-test.true
-
-pub abs-requires : goal.abs-requires
-abs-requires c = in-more (in-rd (within (goal.at.abs-requires c).After-left-z) tt) (omega arith)
-
-pub larger-m-requires : goal.larger-m-requires
-larger-m-requires c = (c.loop-i.invariant.1, le_trans (le_of_eq (size (goal.at.larger-m-requires c).After-abs)) (within (goal.at.larger-m-requires c).After-left-z).size)
+use Rattle.replacement.proofs.surveying.others.Goals.{then-i-x, else-i-x}
 
 pub loop-i-preserved : goal.loop-i-preserved
-loop-i-preserved c = (left-more c.args.ns.now c.args.x c.loop-i.invariant.0 c.larger-m.ensures.0 (le_trans (le_of_eq (ap nat_abs (sym c.left-z.ensures) ∙ sym (size (goal.at.loop-i-preserved c).After-abs))) c.larger-m.ensures.1), c.larger-m.ensures.2)
+loop-i-preserved c = let ns = c.args.ns.now in
+    let x = c.args.x in
+    let i = c.loop-i.i in
+    let h = c.loop-i.invariant in
+    let k = (c.requires.at i).size in
+    elim c.if-i-x.branch [
+      | then-i-x w ↦
+          let n : nat_abs (left_at ns x i) ≡ nat_abs (at ns i) = ap nat_abs (left-other ns x i w.if-i-x.true) in
+          let v : w.unsigned_abs.result ≡ nat_abs (at ns i) = w.unsigned_abs.ensures.value ∙ ap nat_abs (rd-at c.requires tt i) in
+          (left-more ns x h.0 (omega (arith, w.max-m.ensures, w.m-is)) (omega (arith, w.max-m.ensures, w.m-is, n, v)), omega (arith, w.max-m.ensures, w.m-is, v, k, h.1))
+      | else-i-x w ↦
+          let n : nat_abs (left_at ns x i) ≡ 0 = ap nat_abs (left-self ns x i w.if-i-x.false) in
+          (left-more ns x h.0 (omega (arith, w.m-is)) (omega (arith, n)), omega (arith, w.m-is, h.1))
+    ]
 
 pub returns : goal.returns
 returns c = (left-all c.args.ns.now c.args.x c.loop-i-test.false c.loop-i.invariant.0, c.loop-i.invariant.1)

@@ -1,5 +1,6 @@
 -- `survey`: at each record what is left of the formula is still to be seen.
 use native.Mathlib.Omega.{arith}
+use lib.ListN.{length}
 use Rattle.reading.specs.Reading.{tree_of}
 use Rattle.reading.proofs.Passing.{part_from}
 use Rattle.replacement.proofs.surveying.OverRecords.{OverStep, over-step}
@@ -8,11 +9,11 @@ use Rattle.replacement.proofs.surveying.survey.Goals as goal
 use Rattle.replacement.proofs.surveying.survey.Goals.{In-loop-at}
 
 -- a turn
-turn : (c : In-loop-at) → let a = c.args in let l = c.loop-at in OverStep a.s.now a.n l.at (Seen a.s.now a.x l.v) (tree_of (part_from l.at a.s.now))
+turn : (c : In-loop-at) → let a = c.args in let l = c.loop-at in OverStep a.s.now (length a.s.now) l.at (Seen a.s.now a.x l.v) (tree_of (part_from l.at a.s.now))
 turn c = over-step c.loop-at.invariant.over c.loop-at-test.true
 
 pub loop-at-init : goal.loop-at-init
-loop-at-init c = look-begins c.requires.begins.0 c.requires.n_value
+loop-at-init c = look-begins c.requires.begins.0 c.requires.s_len
 
 pub slice_bounds-seen-count : goal.slice_bounds-seen-count
 slice_bounds-seen-count c = omega (arith, (turn (goal.at.slice_bounds-seen-count c).In-loop-at).room)

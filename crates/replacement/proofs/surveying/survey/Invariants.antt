@@ -5,7 +5,7 @@ use Rattle.replacement.proofs.surveying.SurveyLaws.{Looking}
 use Rattle.replacement.proofs.surveying.survey.Given as goal
 
 abbrev pub invariant-loop-at : goal.invariant-loop-at
-invariant-loop-at l = Looking l.s l.n l.x l.v l.at
+invariant-loop-at l = Looking l.s (length l.s) l.x l.v l.at
 
 abbrev pub decreases-loop-at : goal.decreases-loop-at
 decreases-loop-at l = length l.s - l.at
