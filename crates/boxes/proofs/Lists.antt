@@ -7,6 +7,7 @@ use native.Mathlib.Omega.{arith}
 use lib.Dec.{eqb, ltb}
 use lib.ListN.{length, length-replicate}
 use borrow.Author.Tests.{lt-ltb, le-ltb, eq-eqb, ne_eqb}
+use mir.Val.{bool_byte}
 use Rattle.reading.specs.Limits.{sheet_bytes, sheet_levels, result_bytes}
 use Rattle.reading.specs.Bytes.{le2, zeros}
 use Rattle.reading.specs.Formula.{Formula, encode}
@@ -18,7 +19,7 @@ use Rattle.rules.specs.Steps.{Run, ran, halted, eliminated}
 use Rattle.rules.specs.Eliminate.{refused, delivered, cleared, finished, by_run, by_reading, eliminate, Roomy}
 use Rattle.rules.specs.Counts.{Counts, uncounted, counts_by, counted}
 use Rattle.boxes.specs.Boxes.{box_kind, box_in, line_by, line_of, one_if, added, added_all}
-use Rattle.boxes.specs.declared.Boxed.TheVariants as Boxed
+use Rattle.boxes.specs.Boxes.{Boxed}
 use Rattle.boxes.specs.declared.Line.{Line}
 use Rattle.boxes.specs.declared.Totals.{Totals}
 
@@ -56,6 +57,11 @@ module _ (s : List ℕ) where
         box-whole m = simp (ne_eqb (length s) 0 some, le-ltb (length s) 4 h, eq-eqb (le2 s 2) box_kind k, le-ltb (le2 s 0) 4 l, le-ltb (length s) (le2 s 0) m)
 
 -- ---- a line more
+
+-- a truth as a number
+pub bool_byte-is : (b : Bool) → bool_byte b ≡ one_if b
+bool_byte-is true = refl
+bool_byte-is false = refl
 
 pub added-not : (t : Totals) (l : Line) → (l.answer ≡ 0 → ⊥) → t ≡ added t l
 unfolding added

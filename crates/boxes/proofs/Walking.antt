@@ -10,7 +10,7 @@ use lib.Seq.{drop-drop, take-append-le, drop-append-le}
 use borrow.Author.Tests.{ltb-false, eqb-true}
 use Rattle.reading.specs.Bytes.{le2}
 use Rattle.boxes.specs.Boxes.{box_kind, box_in, sheet_in, line_of, Ending, through, bad_at, Season, walk_at, walk, season}
-use Rattle.boxes.specs.declared.Boxed.{Boxed}
+use Rattle.boxes.specs.Boxes.{Boxed}
 use Rattle.boxes.specs.declared.Line.{Line}
 use Rattle.boxes.proofs.Lists.{box-over, box-whole}
 

@@ -1,10 +1,13 @@
 -- #102: sheets in boxes, one after the other; the line that is told of each, where the walk over them ends and why, and the totals.
-use Rattle.std.specs.Prelude.{ℕ, zero, suc, ◌+◌, ◌-◌, Bool, cond, List, [], ◌∷◌, eqb, ltb, length, take, drop}
+use Rattle.std.specs.Prelude.{ℕ, zero, suc, ◌+◌, ◌-◌, Bool, cond, List, [], ◌∷◌, eqb, ltb, length, take, drop, Option, Some, None, Ok, Err}
+use Rattle.std.specs.Prelude as Std
 use Rattle.reading.specs.Limits.{result_bytes}
 use Rattle.reading.specs.Bytes.{le2, zeros}
 use Rattle.rules.specs.Eliminate.{Result, eliminate}
 use Rattle.rules.specs.Counts.{Counts, counted}
-use Rattle.boxes.specs.declared.Boxed.{Boxed}
+use Rattle.boxes.specs.declared.BadBox.{BadBox}
+use Rattle.elimination.specs.Verdicts.{number_of, verdict_of, length_of}
+use Rattle.elimination.specs.declared.Counted.{Counted}
 use Rattle.boxes.specs.declared.Line.{Line}
 use Rattle.boxes.specs.declared.Totals.{Totals}
 
@@ -12,6 +15,18 @@ use Rattle.boxes.specs.declared.Totals.{Totals}
 
 abbrev pub box_kind : ℕ
 box_kind = 16
+
+-- what bytes begin with: none are left; a bad box; or a box of so many bytes
+pub data Boxed : Type 0 where
+  Over : Boxed
+  Bad : Boxed
+  Whole : ℕ → Boxed
+
+-- what the code says of it
+abbrev pub boxed : Std.Result (Option ℕ) BadBox → Boxed
+boxed (Ok None) = Over
+boxed (Ok (Some n)) = Whole n
+boxed (Err b) = Bad
 
 -- what the bytes s begin with: nothing where there are none; a bad box (15), which is cut short, of another kind or of a length under 4; or a box of so many bytes
 unfoldable pub box_in : List ℕ → Boxed
@@ -25,6 +40,10 @@ abbrev pub sheet_in : ℕ → List ℕ → List ℕ
 sheet_in n s = take (n - 4) (drop 4 s)
 
 -- ---- a line: what the elimination of the sheet answers, and what is counted of it
+
+-- the numbers of what was counted
+abbrev pub line_told : Counted → Line
+line_told c = record { answer = number_of c.reply; verdict = verdict_of c.reply; steps = c.tally.steps; terms = c.tally.terms; length = length_of c.reply }
 
 abbrev pub line_by : Result → Counts → Line
 line_by o c = record { answer = o.number; verdict = o.verdict; steps = c.finished; terms = c.most; length = o.length }

@@ -4,24 +4,22 @@
 ghost use Rattle.std.specs.Prelude.{◌≡◌, ◌+◌, ◌<◌, ◌≤◌, length};
 ghost use Rattle.rules.specs.Eliminate.{eliminate};
 ghost use Rattle.rules.specs.Counts.{counted};
-ghost use Rattle.boxes.specs.Boxes.{box_in, line_by, one_if, added};
+ghost use Rattle.boxes.specs.Boxes.{boxed, box_in, line_told, line_by, added};
 
+use elimination::Counted;
 use reading::u16_at;
+use std::fmt;
 
 // The bytes of a box before its sheet, and the kind that it has.
 pub const BOX_BYTES: usize = 4;
 
 const BOX_KIND: u16 = 16;
 
-// What bytes begin with: none are left; a bad box; or a box of so many bytes.
-#[derive(Clone, Copy)]
-pub enum Boxed {
-    Over,
-    Bad,
-    Whole(usize),
-}
+// A box that is cut short, of another kind or of a length under 4.
+#[derive(Clone, Copy, Debug, PartialEq, Eq)]
+pub struct BadBox;
 
-// What is told of a sheet, after its number.
+// What is told of a sheet, after its number. These are the numbers that stand on the line, as they are printed and added up: `added` takes any of them.
 #[derive(Clone, Copy)]
 pub struct Line {
     pub answer: usize,
@@ -31,8 +29,36 @@ pub struct Line {
     pub length: usize,
 }
 
+impl From<Counted> for Line {
+    ghost from_gives = { λ c l. l ≡ line_told c };
+
+    fn from(c: Counted) -> Self {
+        let (answer, verdict, length) = match c.reply {
+            Ok(delivered) => (0, delivered.verdict.number(), delivered.length),
+            Err(refused) => (refused.why.number(), 3, 0),
+        };
+        Line {
+            answer,
+            verdict,
+            steps: c.tally.steps,
+            terms: c.tally.terms,
+            length,
+        }
+    }
+}
+
+impl fmt::Display for Line {
+    fn fmt<W: fmt::Write>(&self, f: &mut fmt::Formatter<W>) -> fmt::Result {
+        write!(
+            f,
+            "{} {} {} {} {}",
+            self.answer, self.verdict, self.steps, self.terms, self.length
+        )
+    }
+}
+
 // How many boxes had answer 0, and verdict 0, 1 and 2; and the sum of the results' lengths.
-#[derive(Clone, Copy)]
+#[derive(Clone, Copy, Default)]
 pub struct Totals {
     pub done: u64,
     pub no: u64,
@@ -41,49 +67,38 @@ pub struct Totals {
     pub sum: u64,
 }
 
-// The box that s begins with.
-pub fn box_at(s: &[u8]) -> Boxed
-    ensures { result ≡ box_in s.now }
+impl fmt::Display for Totals {
+    fn fmt<W: fmt::Write>(&self, f: &mut fmt::Formatter<W>) -> fmt::Result {
+        write!(
+            f,
+            "{} {} {} {} {}",
+            self.done, self.no, self.yes, self.free, self.sum
+        )
+    }
+}
+
+// How many bytes the box has that s begins with; none where nothing is left.
+pub fn box_at(s: &[u8]) -> Result<Option<usize>, BadBox>
+    ensures { boxed result ≡ box_in s.now }
 {
-    if s.len() == 0 {
-        return Boxed::Over;
+    if s.is_empty() {
+        return Ok(None);
     }
-    if s.len() < BOX_BYTES {
-        return Boxed::Bad;
-    }
-    if u16_at(s, 2) != BOX_KIND {
-        return Boxed::Bad;
+    if s.len() < BOX_BYTES || u16_at(s, 2) != BOX_KIND {
+        return Err(BadBox);
     }
     let n = u16_at(s, 0) as usize;
-    if n < BOX_BYTES {
-        return Boxed::Bad;
+    if n < BOX_BYTES || s.len() < n {
+        return Err(BadBox);
     }
-    if s.len() < n {
-        return Boxed::Bad;
-    }
-    Boxed::Whole(n)
+    Ok(Some(n))
 }
 
 // The line of a sheet, by way of two buffers.
 pub fn line_of(sheet: &[u8], res: &mut [u8], work: &mut [u8]) -> Line
     ensures { result ≡ line_by (eliminate sheet.now res.old work.old) (counted sheet.now res.old work.old) }
 {
-    let c = elimination::eliminate_counted(sheet, res, work);
-    let r = c.reply;
-    let t = c.tally;
-    Line {
-        answer: r.number,
-        verdict: r.verdict,
-        steps: t.steps,
-        terms: t.terms,
-        length: r.length,
-    }
-}
-
-fn one_if(is: bool) -> u64
-    ensures { (result ≡ one_if is) × (result ≤ 1) }
-{
-    if is { 1 } else { 0 }
+    Line::from(elimination::eliminate_counted(sheet, res, work))
 }
 
 // The totals with a line more.
@@ -96,9 +111,9 @@ pub fn added(t: Totals, l: Line) -> Totals
     }
     Totals {
         done: t.done + 1,
-        no: t.no + one_if(l.verdict == 0),
-        yes: t.yes + one_if(l.verdict == 1),
-        free: t.free + one_if(l.verdict == 2),
+        no: t.no + u64::from(l.verdict == 0),
+        yes: t.yes + u64::from(l.verdict == 1),
+        free: t.free + u64::from(l.verdict == 2),
         sum: t.sum + l.length as u64,
     }
 }

@@ -23,17 +23,16 @@ fn bytes(rt: &impl Print, s: &[u8]) -> io::Result<()> {
     print!(rt; " fnv {}", cases::checksum(s))
 }
 
-fn part(rt: &impl Print, s: &[u8], n: usize) -> io::Result<()> {
-    if n <= s.len() {
-        return bytes(rt, &s[..n]);
-    }
-    Ok(())
-}
-
 fn line(rt: &impl Print, sheet: &[u8], res: &mut [u8], work: &mut [u8]) -> io::Result<()> {
-    let r = elimination::eliminate(sheet, res, work);
-    print!(rt; "{} {} {} {}", r.number, r.verdict, r.place, r.length)?;
-    part(rt, res, r.length)?;
+    match elimination::eliminate(sheet, res, work) {
+        Ok(done) => {
+            print!(rt; "0 {} 0 {}", done.verdict.number(), done.length)?;
+            if let Some(result) = res.get(..done.length) {
+                bytes(rt, result)?;
+            }
+        }
+        Err(no) => print!(rt; "{} 3 {} 0", no.why.number(), no.place)?,
+    }
     println!(rt)
 }
 

@@ -9,11 +9,20 @@ use Rattle.reading.specs.declared.Part as Reading
 use Rattle.rules.specs.Eliminate.{Result, eliminate, eliminate_in, room_bytes}
 use Rattle.rules.specs.Counts.{Counts, counted}
 use Rattle.rules.specs.Test.{tested, Trial}
+use Rattle.std.specs.Prelude as Std
+use Rattle.reading.specs.declared.Refused.{Refused}
+use Rattle.elimination.specs.Verdicts.{number_of, verdict_of, place_of, length_of}
+use Rattle.elimination.specs.declared.Delivered.{Delivered}
 use Rattle.desk.specs.declared.Reply.{Reply}
 use Rattle.desk.specs.declared.Counted.{Counted}
 use Rattle.desk.specs.declared.Tested.{Tested}
 use Rattle.desk.specs.declared.Place.{Place}
 use Rattle.desk.specs.declared.Part.{Part}
+
+-- ---- a reply of the elimination as C gets it: 0 and its verdict and length; or the refusal's number, 3 and its place
+
+abbrev pub Numbered : Std.Result Delivered Refused → Reply → Type 0
+Numbered reply r = (r.number ≡ number_of reply) × (r.verdict ≡ verdict_of reply) × (r.place ≡ place_of reply) × (r.length ≡ length_of reply)
 
 -- ---- vb_eliminate: the reply r, and the bytes out and work of the two buffers afterwards
 

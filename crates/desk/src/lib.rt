@@ -4,8 +4,9 @@
 ghost use Rattle.std.specs.Prelude.{◌≡◌, [], ◌∷◌};
 ghost use Rattle.reading.specs.Answers.{told, answer_of};
 ghost use Rattle.testing.specs.Testing.{trial_of};
-ghost use Rattle.desk.specs.Promises.{gave_test, gave_place, Eliminates, EliminatesIn, CountsAlong, TestsAt, ReadsAs, LooksAt};
+ghost use Rattle.desk.specs.Promises.{Numbered, gave_test, gave_place, Eliminates, EliminatesIn, CountsAlong, TestsAt, ReadsAs, LooksAt};
 
+use elimination::Delivered;
 use reading::{Limit, Refused};
 
 #[repr(C)]
@@ -15,6 +16,23 @@ pub struct Reply {
     pub verdict: u64,
     pub place: u64,
     pub length: u64,
+}
+
+impl From<Result<Delivered, Refused>> for Reply {
+    ghost from_gives = { λ reply r. Numbered reply r };
+
+    fn from(reply: Result<Delivered, Refused>) -> Self {
+        let (number, verdict, place, length) = match reply {
+            Ok(done) => (0, done.verdict.number() as u64, 0, done.length as u64),
+            Err(no) => (no.why.number() as u64, 3, no.place as u64, 0),
+        };
+        Reply {
+            number,
+            verdict,
+            place,
+            length,
+        }
+    }
 }
 
 #[repr(C)]
@@ -40,17 +58,14 @@ impl From<Result<bool, Refused>> for Tested {
     ghost from_gives = { λ said t. gave_test t ≡ trial_of said };
 
     fn from(said: Result<bool, Refused>) -> Self {
-        match said {
-            Ok(holds) => Tested {
-                number: 0,
-                verdict: u64::from(holds),
-                place: 0,
-            },
-            Err(not) => Tested {
-                number: not.why.number() as u64,
-                verdict: 3,
-                place: not.place as u64,
-            },
+        let (number, verdict, place) = match said {
+            Ok(holds) => (0, u64::from(holds), 0),
+            Err(not) => (not.why.number() as u64, 3, not.place as u64),
+        };
+        Tested {
+            number,
+            verdict,
+            place,
         }
     }
 }
@@ -68,12 +83,9 @@ impl From<Result<usize, Refused>> for Place {
     fn from(read: Result<usize, Refused>) -> Self {
         let (number, place) = match read {
             Ok(_) => (0, 0),
-            Err(refused) => (refused.why.number(), refused.place),
+            Err(refused) => (refused.why.number() as u64, refused.place as u64),
         };
-        Place {
-            number: number as u64,
-            place: place as u64,
-        }
+        Place { number, place }
     }
 }
 
@@ -88,29 +100,22 @@ pub struct Part {
 pub fn vb_eliminate(sheet: &[u8], res: &mut [u8], work: &mut [u8]) -> Reply
     ensures { Eliminates sheet.now res.old work.old result res.new work.new }
 {
-    let done = elimination::eliminate(sheet, res, work);
-    Reply {
-        number: done.number as u64,
-        verdict: done.verdict as u64,
-        place: done.place as u64,
-        length: done.length as u64,
-    }
+    Reply::from(elimination::eliminate(sheet, res, work))
 }
 
 // The same with the steps that are finished and the most boundary terms of a step that has at most 64.
 pub fn vb_count(sheet: &[u8], res: &mut [u8], work: &mut [u8]) -> Counted
     ensures { CountsAlong sheet.now res.old work.old result res.new work.new }
 {
-    let all = elimination::eliminate_counted(sheet, res, work);
-    let whole = all.reply;
-    let tally = all.tally;
+    let counted = elimination::eliminate_counted(sheet, res, work);
+    let whole = Reply::from(counted.reply);
     Counted {
-        number: whole.number as u64,
-        verdict: whole.verdict as u64,
-        place: whole.place as u64,
-        length: whole.length as u64,
-        steps: tally.steps as u64,
-        terms: tally.terms as u64,
+        number: whole.number,
+        verdict: whole.verdict,
+        place: whole.place,
+        length: whole.length,
+        steps: counted.tally.steps as u64,
+        terms: counted.tally.terms as u64,
     }
 }
 
@@ -118,13 +123,7 @@ pub fn vb_count(sheet: &[u8], res: &mut [u8], work: &mut [u8]) -> Counted
 pub fn vb_eliminate_in(sheet: &[u8], res: &mut [u8], work: &mut [u8], room: &mut [u8]) -> Reply
     ensures { EliminatesIn sheet.now res.old work.old room.old result res.new work.new room.new }
 {
-    let kept = elimination::eliminate_in(sheet, res, work, room);
-    Reply {
-        number: kept.number as u64,
-        verdict: kept.verdict as u64,
-        place: kept.place as u64,
-        length: kept.length as u64,
-    }
+    Reply::from(elimination::eliminate_in(sheet, res, work, room))
 }
 
 // Whether a quantifier-free sheet holds at p0/q .. p7/q.

@@ -1,4 +1,3 @@
 -- One step in a buffer.
-pub mod Beside
-pub mod Splicing
+pub mod Joining
 pub mod WholeStep

@@ -1,14 +1,18 @@
--- What the code of a step asks for and promises: the formula that stands at the start of a buffer, before and after, and the splice, which puts the replacement in place of the quantifier and moves the bytes after it.
-use Rattle.std.specs.Prelude.{ℕ, zero, suc, ◌≤◌, ◌+◌, ◌-◌, ◌<◌, ◌≡◌, Bool, false, true, cond, List, ◌++◌, length, take, drop, ℤ, ltb}
+-- What the code of a step asks for and promises: the formula that stands at the start of a buffer, before and after, and the join, which puts the replacement in place of the quantifier and the bytes after it behind it.
+use Rattle.std.specs.Prelude.{ℕ, zero, suc, ◌≤◌, ◌+◌, ◌<◌, ◌≡◌, Bool, false, true, cond, List, ◌++◌, length, take, drop, ltb, Result, Ok, Err}
+use Rattle.reading.specs.AnswerNumbers.{long_result}
 use Rattle.reading.specs.Limits.{result_bytes}
-use Rattle.reading.specs.Formula.{Formula, encode}
+use Rattle.reading.specs.Formula.{Formula, encode, quant_size}
 use Rattle.reading.specs.Reading.{tree_of, Exactly}
 use Rattle.reading.specs.Quantifiers.{Quantifier, nothing, at, last_in}
 use Rattle.rules.specs.Points.{terms}
 use Rattle.rules.specs.Steps.{step, refusal}
-use Rattle.elimination.specs.declared.Stepped.{Stepped}
+use Rattle.elimination.specs.declared.Stop as Code
+use Rattle.reading.specs.Answers.{refusal_no}
 use Rattle.rules.specs.Eliminate.{room_bytes}
-use Rattle.replacement.specs.declared.Body.{Body}
+use Rattle.elimination.specs.declared.stepping.Step.{Step}
+use Rattle.replacement.specs.declared.Unmade.{Unmade}
+use Rattle.reading.specs.declared.Refusal.{Refusal}
 use Rattle.replacement.specs.Gathering.{Table}
 use Rattle.replacement.specs.Replacing.{Told}
 
@@ -24,20 +28,37 @@ pub record Stands (n : ℕ) (b : List ℕ) : Type 0 where
 
 -- ---- a step
 
+-- the length of the formula after it; 10, 11 or 12; or the room is too small
+pub data Stepped : Type 0 where
+  Fine : ℕ → Stepped
+  Refused : ℕ → Stepped
+  Short : Stepped
+
+-- what the code says of it
+abbrev pub stepped : Result ℕ Code.Stop → Stepped
+stepped (Ok n) = Fine n
+stepped (Err (Code.Stop.Refused why)) = Refused (refusal_no why)
+stepped (Err Code.Stop.Short) = Short
+
+-- why a step is not finished where the replacement is not made
+abbrev pub stop_of : Unmade → Code.Stop
+stop_of Unmade.Big = Code.Stop.Refused Refusal.BigNumber
+stop_of Unmade.Short = Code.Stop.Short
+
 -- 10, 11, 12 or none (0) for the last quantifier, where g is the formula after the step
 abbrev pub refusal_at : Quantifier → Formula → ℕ
 refusal_at nothing g = 0
 refusal_at (at p b x f) g = refusal x f g
 
 abbrev pub stepped_of : ℕ → ℕ → Stepped
-stepped_of zero n = Stepped.Fine n
-stepped_of (suc e) n = Stepped.Refused (suc e)
+stepped_of zero n = Fine n
+stepped_of (suc e) n = Refused (suc e)
 
 -- whether a step did not come to its end, for want of room
 abbrev pub is_short : Stepped → Bool
-is_short (Stepped.Fine n) = false
-is_short (Stepped.Refused e) = false
-is_short Stepped.Short = true
+is_short (Fine n) = false
+is_short (Refused e) = false
+is_short Short = true
 
 -- a step over f in the buffer cur₀ answered r and left cur there; past 65,536 bytes cur and work are as they were. For want of room it leaves cur as it is
 pub record Tried (f : Formula) (cur₀ cur work₀ work : List ℕ) (r : Stepped) : Type 0 where
@@ -52,37 +73,24 @@ pub record Steps (f : Formula) (n : ℕ) (cur₀ cur work₀ work : List ℕ) (r
   pub tried : Tried f cur₀ cur work₀ work r
   pub roomy : is_short r ≡ true → n < room_bytes
 
--- the formula in the first len bytes of cur has its last quantifier at o; y tells of its body, and ts are its boundary terms
-pub record Poised (len o : ℕ) (every : Bool) (y : Body) (cur : List ℕ) (ts : List (List ℤ)) (ms : List Bool) : Type 0 where
+-- the formula in the first bytes of cur has its last quantifier where the step s is; what is told of its body is so, and the body stands in those bytes; and
+-- the table holds its boundary terms
+pub record Poised (s : Step) (cur : List ℕ) : Type 0 where
+  pub stands : Stands s.len cur
   pub body : Formula
-  pub last : last_in (held len cur) ≡ at o every y.x body
-  pub told : Told body y.x (length (encode body)) ms y
-  pub table : Table ts
-  pub terms_are : ts ≡ terms y.x body
+  pub last : last_in (held s.len cur) ≡ at s.o s.every s.body.x body
+  pub within : s.o + quant_size + s.body.bytes ≤ s.len
+  pub told : Told body s.body.x (length (encode body)) s.marks.now s.body
+  pub table : Table s.ts.now
+  pub terms_are : s.ts.now ≡ terms s.body.x body
 
--- ---- the splice: r bytes of out in place of those from o to e, of a formula of len bytes
+-- ---- the replacement in the buffer: the first r bytes of out from o on, and the tail behind them
 
--- the length after it
-abbrev pub spliced_end : ℕ → ℕ → ℕ → ℕ → ℕ
-spliced_end len o e r = o + r + (len - e)
+-- where they end
+abbrev pub joined_end : ℕ → ℕ → List ℕ → ℕ
+joined_end o r tail = o + r + length tail
 
--- o and e lie in the formula, and each buffer has room for a result
-pub record Places (len o e : ℕ) (cur work out : List ℕ) : Type 0 where
-  pub start : o ≤ e
-  pub stop : e ≤ len
-  pub few : len ≤ result_bytes
-  pub cur_long : result_bytes ≤ length cur
-  pub work_long : result_bytes ≤ length work
-  pub out_long : result_bytes ≤ length out
-
-pub record Splices (len o e r : ℕ) (cur₀ cur work₀ work out : List ℕ) (s : Stepped) : Type 0 where
-  pub answer : s ≡ cond (ltb result_bytes (spliced_end len o e r)) (Stepped.Refused 12) (Stepped.Fine (spliced_end len o e r))
-  pub bytes : spliced_end len o e r ≤ result_bytes → take (spliced_end len o e r) cur ≡ take o cur₀ ++ (take r out ++ drop e (take len cur₀))
-  pub cur_rest : drop result_bytes cur ≡ drop result_bytes cur₀
-  pub work_rest : drop result_bytes work ≡ drop result_bytes work₀
-
--- the same where the bytes after the quantifier stand at the start of work, and the r bytes behind them: what comes after e are the first `rest` bytes of work
-pub record Joins (rest o r : ℕ) (cur₀ cur work : List ℕ) (s : Stepped) : Type 0 where
-  pub answer : s ≡ cond (ltb result_bytes (o + r + rest)) (Stepped.Refused 12) (Stepped.Fine (o + r + rest))
-  pub bytes : o + r + rest ≤ result_bytes → take (o + r + rest) cur ≡ take o cur₀ ++ (take r (drop rest work) ++ take rest work)
+pub record Joins (o r : ℕ) (cur₀ cur out tail : List ℕ) (s : Stepped) : Type 0 where
+  pub answer : s ≡ cond (ltb result_bytes (joined_end o r tail)) (Refused long_result) (Fine (joined_end o r tail))
+  pub bytes : joined_end o r tail ≤ result_bytes → take (joined_end o r tail) cur ≡ take o cur₀ ++ (take r out ++ tail)
   pub cur_rest : drop result_bytes cur ≡ drop result_bytes cur₀

@@ -5,41 +5,16 @@
 
 ghost use Rattle.std.specs.Prelude.{◌≡◌, false, ◌≤◌, ◌<◌, length};
 
-use boxes::{BOX_BYTES, Boxed, Line, Totals};
+use boxes::{BOX_BYTES, BadBox, Line, Totals};
 use std::io;
 use std::io::{IsTerminal, Read};
 
 // How far the list has come: its boxes, the bytes that they take, and the totals.
-#[derive(Clone, Copy)]
+#[derive(Clone, Copy, Default)]
 struct State {
     boxes: u64,
     at: u64,
     totals: Totals,
-}
-
-// The same, and whether there is more to read.
-#[derive(Clone, Copy)]
-struct Turned {
-    more: bool,
-    state: State,
-}
-
-// The line of a box.
-fn tell(rt: &impl Print, number: u64, l: Line) -> io::Result<()> {
-    println!(rt;
-        "{number} {} {} {} {} {}",
-        l.answer, l.verdict, l.steps, l.terms, l.length
-    )
-}
-
-// The line of a bad box.
-fn tell_bad(rt: &impl Print, at: u64) -> io::Result<()> {
-    println!(rt; "15 {at}")
-}
-
-// The last line.
-fn tell_totals(rt: &impl Print, t: Totals) -> io::Result<()> {
-    println!(rt; "{} {} {} {} {}", t.done, t.no, t.yes, t.free, t.sum)
 }
 
 // How many boxes are done, on a terminal, now and then.
@@ -67,20 +42,10 @@ fn fetch<R: Read>(reader: &mut R, buffer: &mut [u8]) -> io::Result<usize>
         return Ok(got);
     }
     let n = reading::u16_at(buffer, 0) as usize;
-    if n < BOX_BYTES {
-        return Ok(BOX_BYTES);
-    }
-    if buffer.len() < n {
+    if n < BOX_BYTES || buffer.len() < n {
         return Ok(BOX_BYTES);
     }
     Ok(BOX_BYTES + streams::read_full(reader, &mut buffer[BOX_BYTES..n])?)
-}
-
-fn ended(s: State) -> Turned {
-    Turned {
-        more: false,
-        state: s,
-    }
 }
 
 // Whether a number is near the end of its range, which in a list that a machine can read none ever is.
@@ -90,50 +55,23 @@ fn large(n: u64) -> bool
     4611686018427387904 <= n
 }
 
-// The list with a line more, for a box of n bytes.
-fn counted(rt: &impl Print, s: State, l: Line, n: usize) -> io::Result<Turned> {
+// The list with a line more, for a box of n bytes; none where a number of it is large.
+fn counted(s: State, l: Line, n: usize) -> Option<State> {
     let t = s.totals;
-    if large(t.done) {
-        return Ok(ended(s));
+    if large(t.done) || large(t.no) || large(t.yes) || large(t.free) || large(t.sum) {
+        return None;
     }
-    if large(t.no) {
-        return Ok(ended(s));
+    if large(l.length as u64) || large(s.boxes) || large(s.at) || large(n as u64) {
+        return None;
     }
-    if large(t.yes) {
-        return Ok(ended(s));
-    }
-    if large(t.free) {
-        return Ok(ended(s));
-    }
-    if large(t.sum) {
-        return Ok(ended(s));
-    }
-    if large(l.length as u64) {
-        return Ok(ended(s));
-    }
-    if large(s.boxes) {
-        return Ok(ended(s));
-    }
-    if large(s.at) {
-        return Ok(ended(s));
-    }
-    if large(n as u64) {
-        return Ok(ended(s));
-    }
-    let number = s.boxes + 1;
-    let next = s.at + n as u64;
-    tell(rt, number, l)?;
-    Ok(Turned {
-        more: true,
-        state: State {
-            boxes: number,
-            at: next,
-            totals: boxes::added(t, l),
-        },
+    Some(State {
+        boxes: s.boxes + 1,
+        at: s.at + n as u64,
+        totals: boxes::added(t, l),
     })
 }
 
-// What the first k bytes of the buffer are: the end of the list, a bad box, or a box and its line.
+// What the first k bytes of the buffer are, which is told: the end of the list, a bad box, or a box and its line. The list goes on after a box alone.
 fn turn(
     rt: &impl Print,
     buffer: &[u8],
@@ -141,30 +79,30 @@ fn turn(
     res: &mut [u8],
     work: &mut [u8],
     s: State,
-) -> io::Result<Turned> {
-    if buffer.len() < k {
-        return Ok(ended(s));
-    }
-    let b = boxes::box_at(&buffer[..k]);
-    match b {
-        Boxed::Over => {
-            tell_totals(rt, s.totals)?;
-            Ok(ended(s))
+) -> io::Result<Option<State>> {
+    let Some(bytes) = buffer.get(..k) else {
+        return Ok(None);
+    };
+    match boxes::box_at(bytes) {
+        Ok(None) => {
+            println!(rt; "{}", s.totals)?;
+            Ok(None)
         }
-        Boxed::Bad => {
-            tell_bad(rt, s.at)?;
-            tell_totals(rt, s.totals)?;
-            Ok(ended(s))
+        Err(BadBox) => {
+            println!(rt; "15 {}", s.at)?;
+            println!(rt; "{}", s.totals)?;
+            Ok(None)
         }
-        Boxed::Whole(n) => {
-            if n < BOX_BYTES {
-                return Ok(ended(s));
-            }
-            if buffer.len() < n {
-                return Ok(ended(s));
-            }
-            let l = boxes::line_of(&buffer[BOX_BYTES..n], res, work);
-            counted(rt, s, l, n)
+        Ok(Some(n)) => {
+            let Some(sheet) = buffer.get(BOX_BYTES..n) else {
+                return Ok(None);
+            };
+            let l = boxes::line_of(sheet, res, work);
+            let Some(next) = counted(s, l, n) else {
+                return Ok(None);
+            };
+            println!(rt; "{} {l}", next.boxes)?;
+            Ok(Some(next))
         }
     }
 }
@@ -176,25 +114,13 @@ fn main(rt: HostRuntime) -> io::Result<()> {
     let mut reader = rt.reader();
     let terminal = rt.stderr();
     let is_terminal = terminal.is_terminal();
-    let totals = Totals {
-        done: 0,
-        no: 0,
-        yes: 0,
-        free: 0,
-        sum: 0,
-    };
-    let mut s = State {
-        boxes: 0,
-        at: 0,
-        totals: totals,
-    };
+    let mut s = State::default();
     for _ in 0..1099511627776u64 {
         let k = fetch(&mut reader, &mut buffer)?;
-        let u = turn(&rt, &buffer, k, &mut result, &mut work, s)?;
-        if !u.more {
+        let Some(next) = turn(&rt, &buffer, k, &mut result, &mut work, s)? else {
             return leave(&terminal, is_terminal);
-        }
-        s = u.state;
+        };
+        s = next;
         show(&terminal, is_terminal, s.boxes)?;
     }
     Ok(())

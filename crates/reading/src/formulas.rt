@@ -36,23 +36,15 @@ pub fn formula_at(s: &[u8], levels: usize) -> Result<usize, Refused>
     Ok(at)
 }
 
-// The bytes, and the levels, that a sheet may have.
 impl Limit {
-    fn bytes(self) -> usize
-        ensures { result ≡ bytes_of self }
+    // The bytes, and the levels, that a sheet may have.
+    fn bounds(self) -> (usize, usize)
+        ensures bytes { result.0 ≡ bytes_of self }
+        ensures levels { result.1 ≡ levels_of self }
     {
         match self {
-            Limit::Sheet => SHEET_BYTES,
-            Limit::Result => RESULT_BYTES,
-        }
-    }
-
-    fn levels(self) -> usize
-        ensures { result ≡ levels_of self }
-    {
-        match self {
-            Limit::Sheet => SHEET_LEVELS,
-            Limit::Result => RESULT_LEVELS,
+            Limit::Sheet => (SHEET_BYTES, SHEET_LEVELS),
+            Limit::Result => (RESULT_BYTES, RESULT_LEVELS),
         }
     }
 }
@@ -81,5 +73,6 @@ fn read_within(s: &[u8], bytes: usize, levels: usize) -> Result<usize, Refused>
 pub fn read(s: &[u8], limit: Limit) -> Result<usize, Refused>
     ensures { told result ≡ reading (bytes_of limit) (levels_of limit) s.now }
 {
-    read_within(s, limit.bytes(), limit.levels())
+    let (bytes, levels) = limit.bounds();
+    read_within(s, bytes, levels)
 }

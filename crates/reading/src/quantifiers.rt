@@ -8,6 +8,7 @@ use crate::formulas::{formula_at, read};
 use crate::numbers::u16_at;
 use crate::{Limit, Part, QUANTIFIER_BYTES, TREE_LEVELS};
 
+// Whether the number is the kind of a quantifier. It is looked at for each record that a walk passes, so no kind is named first.
 fn is_quantifier(kind: u16) -> bool
     ensures { result ≡ is_quantifier kind }
 {
@@ -21,6 +22,7 @@ fn seek(s: &[u8], last: bool) -> Option<usize>
 {
     let mut found = None;
     let mut at = 0;
+    // No index is counted: each turn goes on by the length that the record says.
     while at < s.len() {
         if is_quantifier(u16_at(s, at + 2)) {
             found = Some(at);

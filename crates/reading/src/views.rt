@@ -1,4 +1,5 @@
-// What the record says that a formula begins with: its kind, and the fields of each kind. The crates above see a record by these alone.
+// What the record says that a formula begins with: its kind, and the fields of each kind. The crates above see a record by these alone. Each takes the
+// bytes themselves and asks that they begin with a formula, as docs/PROMISES.md shows them: a type for such bytes would ask its maker for the same.
 ghost use Rattle.std.specs.Prelude.{◌≡◌, ◌<◌, get_or, pos};
 ghost use Rattle.reading.specs.Limits.{variables};
 ghost use Rattle.reading.specs.Formula.{count, size, follow, label_of, IsList};
@@ -96,6 +97,7 @@ pub fn past(s: &[u8], at: usize, left: usize) -> usize
 {
     let mut p = at;
     let mut k = left;
+    // No index is counted: a record adds the formulas that follow it to those that are left.
     while k > 0 {
         k = k - 1 + followers(&s[p..]);
         p += record_bytes(&s[p..]);

@@ -71,7 +71,8 @@ pub struct Survey {
     pub other: u64,
 }
 
-// What may be counted on while a formula is copied: no number comes out too big; and the table of marks tells which atoms come out as they are.
+// What may be counted on while a formula is copied: no number comes out too big; and the table of marks tells which atoms come out as they are. The
+// table is the caller's, lent to be written and then to be read, so that it was written is told beside it: an Option of it would be made of that flag.
 #[derive(Clone, Copy)]
 pub struct Way {
     pub calm: bool,

@@ -7,7 +7,7 @@ use crate::{Came, Copied, Open};
 
 impl Open {
     // A list with no member yet.
-    pub fn opened(all: bool, start: usize) -> Open
+    pub(crate) fn opened(all: bool, start: usize) -> Open
         requires { start + 6 < 18446744073709551616 }
         ensures { result ≡ opened_of all start }
     {
@@ -21,7 +21,7 @@ impl Open {
     }
 
     // The list after a member that is true or false: a false one decides ALLOF, a true one ANYOF.
-    pub fn decided(self, v: bool) -> Open
+    pub(crate) fn decided(self, v: bool) -> Open
         ensures { result ≡ decided_of self v }
     {
         Open {
@@ -31,7 +31,7 @@ impl Open {
     }
 
     // The list after a member that is kept and ends at e.
-    pub fn kept(self, e: usize) -> Open
+    pub(crate) fn kept(self, e: usize) -> Open
         requires { self.kept + 1 < 18446744073709551616 }
         ensures { result ≡ kept_of self e }
     {
@@ -43,7 +43,7 @@ impl Open {
     }
 
     // The list after a member.
-    pub fn taken(self, came: Came) -> Open
+    pub(crate) fn taken(self, came: Came) -> Open
         requires { self.kept + 1 < 18446744073709551616 }
         ensures { result ≡ taken_of self came }
     {
@@ -54,7 +54,7 @@ impl Open {
     }
 
     // The list rule, once all members are there; used is the length of the source.
-    pub fn closed(self, out: &mut [u8], used: usize) -> Copied
+    pub(crate) fn closed(self, out: &mut [u8], used: usize) -> Copied
         requires { Space self (length out.old) }
         ensures { Closes self used out.old out.new result }
     {

@@ -143,7 +143,12 @@ impl Source<'_> {
     }
 
     // The list of the copies at all points of the body's variable; ts are its boundary terms.
-    pub fn all_copies(&self, ts: &[[i64; 10]], all: bool, out: &mut [u8]) -> Result<Copies, Unmade>
+    pub(crate) fn all_copies(
+        &self,
+        ts: &[[i64; 10]],
+        all: bool,
+        out: &mut [u8],
+    ) -> Result<Copies, Unmade>
         requires copiable { Copiable self.now.bytes.now self.now.body (length out.old) self.now.marks.now }
         requires table { Table ts.now }
         requires sure { Sure self.now.body (points self.now.body.x ts.now) (push false (tree_of self.now.bytes.now)) }

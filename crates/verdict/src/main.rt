@@ -8,6 +8,8 @@ fn main(rt: HostRuntime) -> io::Result<()> {
     let mut result = [0u8; 65536];
     let mut work = [0u8; 65536];
     let n = streams::read_full(&mut rt.reader(), &mut sheet)?;
-    let r = elimination::eliminate(&sheet[..n], &mut result, &mut work);
-    println!(rt; "{} {} {} {}", r.number, r.verdict, r.place, r.length)
+    match elimination::eliminate(&sheet[..n], &mut result, &mut work) {
+        Ok(done) => println!(rt; "0 {} 0 {}", done.verdict.number(), done.length),
+        Err(no) => println!(rt; "{} 3 {} 0", no.why.number(), no.place),
+    }
 }

@@ -1,5 +1,7 @@
--- `line_of`: what the counted elimination answers.
+-- `line_of`: what the counted elimination answers, in numbers.
+use mathlib.Core.Path.{◌∙◌}
 use Rattle.boxes.proofs.line_of.Goals as goal
 
 pub returns : goal.returns
-returns c = λ i. record { answer = c.eliminate_counted-c.ensures.0.0 i; verdict = c.eliminate_counted-c.ensures.0.1 i; steps = (c.eliminate_counted-c.ensures.1 i).finished; terms = (c.eliminate_counted-c.ensures.1 i).most; length = c.eliminate_counted-c.ensures.0.3 i }
+returns c = let g = c.eliminate_counted.ensures.gives in let n = c.eliminate_counted.ensures.counts in
+    c.from.ensures ∙ (λ i. record { answer = g.0 i; verdict = g.1 i; steps = (n i).finished; terms = (n i).most; length = g.3 i })

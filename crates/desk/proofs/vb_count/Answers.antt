@@ -1,5 +1,7 @@
 -- Every field of the reply, and every byte of both buffers, is that of the call below, and so is what is counted.
+use mathlib.Core.Path.{◌∙◌}
 use Rattle.desk.proofs.vb_count.Goals as goal
 
 pub returns : goal.returns
-returns c = (λ i. record { number = c.eliminate_counted-all.ensures.0.0 i; verdict = c.eliminate_counted-all.ensures.0.1 i; place = c.eliminate_counted-all.ensures.0.2 i; length = c.eliminate_counted-all.ensures.0.3 i; result = c.eliminate_counted-all.ensures.0.4 i; work = c.eliminate_counted-all.ensures.0.5 i }, c.eliminate_counted-all.ensures.1)
+returns c = let f = c.from-whole.ensures in let e = c.eliminate_counted-counted.ensures.gives in
+    (λ i. record { number = (f.0 ∙ e.0) i; verdict = (f.1 ∙ e.1) i; place = (f.2 ∙ e.2) i; length = (f.3 ∙ e.3) i; result = e.4 i; work = e.5 i }, c.eliminate_counted-counted.ensures.counts)

@@ -3,19 +3,23 @@
 use Prim.Native.Nat.{ℕ, ◌-◌, ◌≤◌, ◌<◌}
 use mathlib.Core.Path.{◌≡◌, sym, ◌∙◌, ap, ap₂, subst, refl}
 use mathlib.Core.Bool.{Bool, true, false, ◌||◌, cond}
+use mathlib.Core.Logic.{◌⊎◌, inl, inr}
 use mathlib.Core.List.{List, [], ◌++◌, append-nil}
 use native.Mathlib.Omega.{arith}
 use lib.Dec.{ltb}
-use lib.ListN.{length, take, drop, length-replicate}
-use lib.Seq.{take-length, length-take-le, drop_at}
+use lib.ListN.{length, take, drop, length-append, length-drop}
+use lib.Seq.{length-take-le, take_at, drop_at}
+use Rattle.std.proofs.lemmas.Slice.{drop-append-drop}
 use borrow.Author.Tests.{lt-ltb, le-ltb, ltb-false}
 use Rattle.reading.specs.AnswerNumbers.{long_result}
 use Rattle.reading.specs.Limits.{sheet_bytes, sheet_levels, result_bytes, result_levels}
 use Rattle.reading.specs.Bytes.{Bytes, zeros}
 use Rattle.reading.specs.Formula.{Formula, encode, Fits, Free}
 use Rattle.reading.specs.Reading.{Read, good, formula_in, tree_of, Exactly}
-use Rattle.reading.specs.Answers.{reading}
+use Rattle.reading.specs.Answers.{reading, refusal_no}
+use Rattle.reading.specs.declared.Refused.{Refused}
 use Rattle.reading.specs.Answers as Answers
+use Rattle.std.specs.Prelude.{Ok, Err, IsOk}
 use Rattle.reading.proofs.Accepts.{accepted}
 use Rattle.reading.proofs.Laws.{reads}
 use Rattle.reading.proofs.Places.{nothing-free}
@@ -26,21 +30,16 @@ use Rattle.rules.specs.Lists.{known}
 use Rattle.rules.specs.Copies.{fits}
 use Rattle.rules.specs.Levels.{Wide}
 use Rattle.rules.specs.Steps.{Run, ran, halted, eliminated}
-use Rattle.rules.specs.Eliminate.{Result, verdict_by, cleared, refused, delivered, finished, by_run, by_reading, eliminate, room_bytes}
+use Rattle.rules.specs.Eliminate.{Result, verdict_by, cleared, refused, delivered, finished, by_run, by_reading, eliminate, eliminate_in, room_bytes}
+use Rattle.rules.proofs.Answers.{room_small, in_small}
 use Rattle.rules.proofs.Limits.Levels.{fits-wide, wide_fits}
 use Rattle.rules.proofs.Limits.Copies.{finishing-fits, finished-fits}
 use Rattle.rules.proofs.Stepwise.Run.{eliminated-wide, run-done}
-use Rattle.writing.specs.Writing.{lay}
 use Rattle.elimination.specs.Stepping.{held, Stands}
 use Rattle.elimination.specs.Running.{Reached, RanTo}
 use Rattle.elimination.specs.Finishing.{Unquantified, FinishesIn}
-use Rattle.elimination.specs.Eliminating.{Accepted, Gives, Carries}
-use Rattle.elimination.specs.declared.Ran.TheVariants as Ran
-use Rattle.elimination.specs.declared.Carried.{Carried}
-use Rattle.elimination.specs.declared.Reply.{Reply}
-use Rattle.writing.proofs.Lay.{length-lay}
+use Rattle.elimination.specs.Eliminating.{Accepted, Reply, Gives, Carried, Carries}
 use Rattle.elimination.proofs.running.RunLaws.{held-is, stands-as, eliminated-short}
-use Rattle.elimination.proofs.finishing.Results.{laid, past}
 use Rattle.elimination.proofs.eliminating.Delivery.{outcome}
 
 -- ---- a result says nothing of a buffer's first 65,536 bytes
@@ -67,28 +66,20 @@ module _ (f : Formula) (a₀ a w₀ w : List ℕ) (d : drop result_bytes a ≡ d
   gives-from n o r x y e = subst (λ (q : Result). Gives q r x y) (run-same n o a a₀ w w₀ d h ∙ ap (λ (k : Run). by_run n k a₀ w₀) (sym e))
 
   pub carries-from : (g : Formula) (n room : ℕ) (x y : List ℕ) (q : Carried) → eliminated f ≡ eliminated g → Carries g n room a x w y q → Carries f n room a₀ x w₀ y q
-  carries-from g n room x y (Carried.Done r) e c = gives-from n (eliminated g) r x y e c
-  carries-from g n room x y (Carried.Short k) e c = (record { stands = c.0.stands; wide = c.0.wide; same = e ∙ c.0.same }, c.1 ∙ d, c.2 ∙ h, c.3)
+  carries-from g n room x y (Ok r) e c = gives-from n (eliminated g) r x y e c
+  carries-from g n room x y (Err s) e c = (record { stands = c.0.stands; wide = c.0.wide; same = e ∙ c.0.same }, c.1 ∙ d, c.2 ∙ h, c.3)
 
 -- ---- how far an elimination came
 
 module _ (f : Formula) (m room : ℕ) (a₀ a w₀ w : List ℕ) {q : Carried} (c : Carries f m room a₀ a w₀ w q) where
   -- to its reply
-  pub carried-done : (r : Reply) → q ≡ Carried.Done r → Gives (by_run m (eliminated f) a₀ w₀) r a w
+  pub carried-done : (r : Reply) → q ≡ Ok r → Gives (by_run m (eliminated f) a₀ w₀) r a w
   carried-done r e = subst (Carries f m room a₀ a w₀ w) e c
 
-  -- or not, for want of room, which 524,288 bytes never are
-  pub never-short : (k : ℕ) → q ≡ Carried.Short k → room_bytes ≤ room → ⊥
-  never-short k e h = let s : Carries f m room a₀ a w₀ w (Carried.Short k) = subst (Carries f m room a₀ a w₀ w) e c in omega (arith, s.3)
-
--- in a room of n zeros
-pub carries-zeros : (n : ℕ) (f : Formula) (m : ℕ) (a₀ a w₀ w : List ℕ) (q : Carried) → Carries f m (length (zeros n)) a₀ a w₀ w q → Carries f m n a₀ a w₀ w q
-carries-zeros n f m a₀ a w₀ w q = subst (λ (k : ℕ). Carries f m k a₀ a w₀ w q) (length-replicate n 0)
-
--- in any room that is not enough for every formula
-pub carries-less : (n k : ℕ) (f : Formula) (m : ℕ) (a₀ a w₀ w : List ℕ) (q : Carried) → k < room_bytes → Carries f m (length (zeros n)) a₀ a w₀ w q → Carries f m k a₀ a w₀ w q
-carries-less n k f m a₀ a w₀ w (Carried.Done r) h x = x
-carries-less n k f m a₀ a w₀ w (Carried.Short j) h x = (x.0, x.1, x.2, h)
+-- with 524,288 bytes always
+pub carried-ok : (f : Formula) (m room : ℕ) (a₀ a w₀ w : List ℕ) (q : Carried) → Carries f m room a₀ a w₀ w q → room_bytes ≤ room → IsOk q
+carried-ok f m room a₀ a w₀ w (Ok r) c h = refl
+carried-ok f m room a₀ a w₀ w (Err s) c h = absurd (omega (arith, c.3))
 
 -- ---- the finishing pass
 
@@ -121,16 +112,6 @@ pub ended-gives : (n₀ n : ℕ) (a₀ a w₀ w : List ℕ) (m : ℕ) (r : Reply
 ended-gives n₀ n a₀ a w₀ w m r x y u s h g =
     gives-from (held n₀ a₀) a₀ a w₀ w s.rest h m (ran (held n₀ a₀)) r x y (free-ran (held n₀ a₀) u.free) (subst (λ (q : Result). Gives q r x y) (given-run s u.levels m w) g)
 
--- for want of room nothing is done
-pub ended-wants : (n : ℕ) (a₀ a w₀ w : List ℕ) (m room : ℕ) → Unquantified n a₀ → Wide result_levels (held n a₀) → (a ≡ a₀) × (w ≡ w₀) × (room < room_bytes)
-    → Carries (held n a₀) m room a₀ a w₀ w (Carried.Short n)
-ended-wants n a₀ a w₀ w m room u v h = (
-  subst (Reached (held n a₀) n) (sym h.0) (record { stands = u.stands; wide = v; same = refl }),
-  ap (drop result_bytes) h.0,
-  ap (drop result_bytes) h.1,
-  h.2,
-)
-
 -- ---- after the run
 
 -- a run over f without a refusal leaves a formula that the finishing pass takes
@@ -138,7 +119,7 @@ pub record Left (f : Formula) (n : ℕ) (cur : List ℕ) : Type 0 where
   pub reached : Reached f n cur
   pub unquantified : Unquantified n cur
 
-pub run-left : (f : Formula) (n room : ℕ) (cur : List ℕ) → Wide result_levels f → length (encode f) ≤ result_bytes → result_bytes ≤ length cur → RanTo f room cur (Ran.Fine n) → Left f n cur
+pub run-left : (f : Formula) (n room : ℕ) (cur : List ℕ) → Wide result_levels f → length (encode f) ≤ result_bytes → result_bytes ≤ length cur → RanTo f room cur (Ok (Ok n)) → Left f n cur
 run-left f n room cur w h l s =
     let g = s.0 in
     let v = eliminated-wide result_levels f g w s.1 in
@@ -163,17 +144,17 @@ pub record Pasted (s d₀ d : List ℕ) : Type 0 where
   pub wide : Wide result_levels (held (length s) d)
   pub rest : drop result_bytes d ≡ drop result_bytes d₀
 
-pub pasted : (s d₀ d : List ℕ) → Accepted s → result_bytes ≤ length d₀ → d ≡ lay 0 (take (length s) s) d₀ → Pasted s d₀ d
-pasted s d₀ d a l x =
+pub pasted : (s d₀ b : List ℕ) → Accepted s → result_bytes ≤ length d₀ → b ≡ s → Pasted s d₀ (b ++ drop (length s) d₀)
+pasted s d₀ b a l x =
     let few = a.few in
-    let e : d ≡ lay 0 s d₀ = x ∙ ap (λ (b : List ℕ). lay 0 b d₀) (take-length s) in
-    let t : take (length s) d ≡ encode (tree_of s) = ap (take (length s)) e ∙ laid s d₀ (omega arith) ∙ a.exactly.bytes in
+    let d = b ++ drop (length s) d₀ in
+    let t : take (length s) d ≡ encode (tree_of s) = take_at b (drop (length s) d₀) (length s) (ap length x) ∙ x ∙ a.exactly.bytes in
     let is = held-is (length s) d (tree_of s) a.exactly.fits t in
     record {
-      stands = stands-as (length s) d (tree_of s) a.exactly.fits t (omega arith) (omega (arith, ap length e, length-lay 0 s d₀));
+      stands = stands-as (length s) d (tree_of s) a.exactly.fits t (omega arith) (omega (arith, ap length x, length-append b (drop (length s) d₀), length-drop (length s) d₀));
       tree = is;
       wide = subst (Wide result_levels) (sym is) (fits-wide (tree_of s) sheet_levels a.levels);
-      rest = ap (drop result_bytes) e ∙ past s d₀ result_bytes (omega arith);
+      rest = drop-append-drop (length s) d₀ b result_bytes (omega arith) (ap length x);
     }
 
 -- ---- what reading says
@@ -199,19 +180,28 @@ sheet-refused s a w n p e l m =
     ∙ ap (λ (r : Answers.Reply). by_reading (length s) r (formula_in sheet_levels s) a w) e
 
 -- a buffer that is too short
-pub result-small : (s a w : List ℕ) → length a < result_bytes → eliminate s a w ≡ refused 1 0 a w
+result-small : (s a w : List ℕ) → length a < result_bytes → eliminate s a w ≡ refused 1 0 a w
 unfolding eliminate
 result-small s a w h =
     ap (λ (b : Bool). cond (b || ltb (length w) result_bytes) (refused 1 0 a w) (by_reading (length s) (reading sheet_bytes sheet_levels s) (formula_in sheet_levels s) a w)) (lt-ltb (length a) result_bytes h)
 
-pub work-small : (s a w : List ℕ) → result_bytes ≤ length a → length w < result_bytes → eliminate s a w ≡ refused 1 0 a w
+work-small : (s a w : List ℕ) → result_bytes ≤ length a → length w < result_bytes → eliminate s a w ≡ refused 1 0 a w
 unfolding eliminate
 work-small s a w l h =
     ap₂ (λ (b c : Bool). cond (b || c) (refused 1 0 a w) (by_reading (length s) (reading sheet_bytes sheet_levels s) (formula_in sheet_levels s) a w)) (le-ltb (length a) result_bytes l) (lt-ltb (length w) result_bytes h)
 
-pub gives-no : (n p : ℕ) (a w : List ℕ) (r : Reply) (o : Result) → o ≡ refused n p a w → r ≡ record { number = n; verdict = 3; place = p; length = 0 } → Gives o r a w
-gives-no n p a w r o e h =
-    subst (λ (x : Result). Gives x r a w) (sym e) (subst (λ (x : Reply). Gives (refused n p a w) x a w) (sym h) (refl, refl, refl, refl, refl, refl))
+pub buffers-small : (s a w : List ℕ) → (length a < result_bytes) ⊎ ((result_bytes ≤ length a) × (length w < result_bytes)) → eliminate s a w ≡ refused 1 0 a w
+buffers-small s a w (inl h) = result-small s a w h
+buffers-small s a w (inr h) = work-small s a w h.0 h.1
+
+pub any-small : (n : ℕ) (s a w : List ℕ) → (length a < result_bytes) ⊎ (((result_bytes ≤ length a) × (length w < result_bytes)) ⊎ ((result_bytes ≤ length a) × (result_bytes ≤ length w) × (n < room_bytes)))
+    → eliminate_in n s a w ≡ refused 1 0 a w
+any-small n s a w (inl h) = in_small n s a w (result-small s a w h)
+any-small n s a w (inr (inl h)) = in_small n s a w (work-small s a w h.0 h.1)
+any-small n s a w (inr (inr h)) = room_small n s a w h.2
+
+pub gives-no : (r : Refused) (a w : List ℕ) (o : Result) → o ≡ refused (refusal_no r.why) r.place a w → Gives o (Err r) a w
+gives-no r a w o e = subst (λ (x : Result). Gives x (Err r) a w) (sym e) (refl, refl, refl, refl, refl, refl)
 
 -- ---- the caller's room
 

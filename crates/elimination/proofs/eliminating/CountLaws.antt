@@ -1,7 +1,8 @@
 -- #102: what is counted while an elimination is carried from one formula on its way to the next. Assumes nothing.
 use Prim.Native.Nat.{ℕ, ◌+◌, ◌≤◌, ◌<◌}
-use mathlib.Core.Path.{◌≡◌, sym, ◌∙◌, ap, ap₂, subst}
+use mathlib.Core.Path.{◌≡◌, sym, ◌∙◌, ap, ap₂}
 use mathlib.Core.Bool.{Bool, true, ◌||◌, cond}
+use mathlib.Core.Logic.{◌⊎◌, inl, inr}
 use mathlib.Core.List.{List, [], append-nil}
 use native.Mathlib.Omega.{arith}
 use lib.Dec.{ltb}
@@ -14,22 +15,13 @@ use Rattle.reading.specs.Answers.{reading}
 use Rattle.reading.specs.Answers as Answers
 use Rattle.reading.proofs.Laws.{reads}
 use Rattle.reading.proofs.Places.{nothing-free}
-use Rattle.rules.specs.Eliminate.{by_run}
-use Rattle.rules.specs.Steps.{eliminated}
 use Rattle.rules.specs.Counts.{Counts, uncounted, together, counts_of, counts_by, counted}
 use Rattle.rules.proofs.Counting.{counts-none, steps-few}
 use Rattle.elimination.specs.Stepping.{held}
 use Rattle.elimination.specs.Running.{tallied, CountsAll, CountsLeft}
-use Rattle.elimination.specs.Eliminating.{Accepted, Gives, Carries, CarriedCounts, Uncounts, untallied}
+use Rattle.elimination.specs.Eliminating.{Accepted, untallied}
 use Rattle.elimination.proofs.running.RunLaws.{sum}
 use Rattle.elimination.specs.declared.Tally.{Tally}
-use Rattle.elimination.specs.declared.Reply.{Reply}
-use Rattle.elimination.specs.declared.Came.{Came}
-use Rattle.elimination.specs.declared.Counted.{Counted}
-use Rattle.elimination.specs.declared.Carried.{Carried}
-
-none_after : (c : Counts) → together c uncounted ≡ c
-none_after c = ap₂ sum (omega arith) (omega arith)
 
 none_before : (c : Counts) → together uncounted c ≡ c
 none_before c = ap₂ sum (omega arith) (omega arith)
@@ -39,32 +31,9 @@ none_before c = ap₂ sum (omega arith) (omega arith)
 pub free-none : (f : Formula) → Free f → counts_of f ≡ uncounted
 free-none f h = counts-none f ((nothing-free true f).1 h)
 
--- all was counted before it
-pub counts-ended : (f : Formula) (t u : Tally) (result : List ℕ) (q : Carried) → Uncounts result q → CountsAll f t u → CarriedCounts f t result q u
-counts-ended f t u result (Carried.Done r) x a = a
-counts-ended f t u result (Carried.Short k) x a = ap (together (tallied u)) x ∙ none_after (tallied u) ∙ a
-
--- ---- with what was counted
-
-pub came-as : (f : Formula) (t : Tally) (m room : ℕ) (a₀ a w₀ w : List ℕ) {q : Carried} {u : Tally} (c : Came) → (c.carried ≡ q) × (c.tally ≡ u) → Carries f m room a₀ a w₀ w q → CarriedCounts f t a q u
-    → Carries f m room a₀ a w₀ w c.carried × CarriedCounts f t a c.carried c.tally
-came-as f t m room a₀ a w₀ w {q} c e x y =
-    (subst (Carries f m room a₀ a w₀ w) (sym e.0) x, subst (λ (p : Carried). CarriedCounts f t a p c.tally) (sym e.0) (subst (CarriedCounts f t a q) (sym e.1) y))
-
-pub counted-as : (f : Formula) (t : Tally) (m : ℕ) (a₀ a w₀ w : List ℕ) {r : Reply} {u : Tally} (c : Counted) → (c.reply ≡ r) × (c.tally ≡ u) → Gives (by_run m (eliminated f) a₀ w₀) r a w → CountsAll f t u
-    → Gives (by_run m (eliminated f) a₀ w₀) c.reply a w × CountsAll f t c.tally
-counted-as f t m a₀ a w₀ w c e x y = (subst (λ (q : Reply). Gives (by_run m (eliminated f) a₀ w₀) q a w) (sym e.0) x, subst (CountsAll f t) (sym e.1) y)
-
 -- ---- from one formula to the next
 
 module _ (f : Formula) (t : Tally) (k : ℕ) (a : List ℕ) (u : Tally) (left : CountsLeft f t k a u) where
-  pub counts-from : (v : Tally) (b : List ℕ) (q : Carried) → CarriedCounts (held k a) u b q v → CarriedCounts f t b q v
-  counts-from v b (Carried.Done r) x = x ∙ left
-  counts-from v b (Carried.Short j) x = x ∙ left
-
-  pub all_from : (v : Tally) → CountsAll (held k a) u v → CountsAll f t v
-  all_from v x = x ∙ left
-
   -- the steps stay as few as they were
   pub few-from : t.steps + (counts_of f).finished ≤ result_bytes → u.steps + (counts_of (held k a)).finished ≤ result_bytes
   few-from h = omega (arith, h, ap (λ (c : Counts). c.finished) left)
@@ -78,12 +47,12 @@ abbrev by : List ℕ → Bool → Bool → Answers.Reply → Read Formula → Co
 by s x y r f = cond (x || y) uncounted (counts_by r f)
 
 module _ (s a w : List ℕ) where
-  pub no_result : length a < result_bytes → counted s a w ≡ uncounted
+  no_result : length a < result_bytes → counted s a w ≡ uncounted
   unfolding counted
   no_result h = ap (λ (b : Bool). by s b (ltb (length w) result_bytes) (reading sheet_bytes sheet_levels s) (formula_in sheet_levels s)) (lt-ltb (length a) result_bytes h)
 
   module _ (l : result_bytes ≤ length a) where
-    pub no-work : length w < result_bytes → counted s a w ≡ uncounted
+    no-work : length w < result_bytes → counted s a w ≡ uncounted
     unfolding counted
     no-work h = ap₂ (λ (b c : Bool). by s b c (reading sheet_bytes sheet_levels s) (formula_in sheet_levels s)) (le-ltb (length a) result_bytes l) (lt-ltb (length w) result_bytes h)
 
@@ -101,3 +70,7 @@ module _ (s a w : List ℕ) where
           c ∙ none_before (counts_of (tree_of s))
           ∙ sym (ap₂ (λ (b c : Bool). by s b c (reading sheet_bytes sheet_levels s) (formula_in sheet_levels s)) (le-ltb (length a) result_bytes l) (le-ltb (length w) result_bytes j)
           ∙ ap₂ counts_by e f)
+
+pub buffers-uncounted : (s a w : List ℕ) → (length a < result_bytes) ⊎ ((result_bytes ≤ length a) × (length w < result_bytes)) → counted s a w ≡ uncounted
+buffers-uncounted s a w (inl h) = no_result s a w h
+buffers-uncounted s a w (inr h) = no-work s a w h.0 h.1

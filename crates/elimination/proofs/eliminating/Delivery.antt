@@ -1,46 +1,34 @@
 -- 01, 'Finishing pass': the bytes at an elimination's end. What the pass leaves, what is cleared, the verdict by the result's bytes, and what is
 -- delivered. Assumes nothing.
-use Prim.Native.Nat.{ℕ, ◌+◌, ◌-◌, ◌≤◌, ◌<◌}
+use Prim.Native.Nat.{ℕ, ◌-◌, ◌≤◌, ◌<◌}
 use mathlib.Core.Path.{◌≡◌, refl, sym, ◌∙◌, ap, ap₂, subst}
 use mathlib.Core.Bool.{Bool, true, false, cond}
 use mathlib.Core.List.{List, [], ◌∷◌, ◌++◌}
-use native.Mathlib.Nat.{zero-add}
 use native.Mathlib.Omega.{arith}
 use lib.Dec.{ltb}
-use lib.ListN.{length, take, drop, get_or, length-replicate, length-append}
-use lib.Seq.{get_or-take, length-take-le, take_at}
+use lib.ListN.{length, take, drop, replicate, length-replicate, length-append}
+use borrow.Rule.Slice.PartMut.{mid_of, put_mid, mid_len, same_len_mid, Post-is}
+use lib.Seq.{length-take-le, take_at}
 use borrow.Author.Tests.{lt-ltb, le-ltb}
 use Rattle.reading.specs.Bytes.{zeros}
 use Rattle.reading.specs.AnswerNumbers.{long_result}
 use Rattle.reading.specs.Limits.{result_bytes, result_levels}
-use Rattle.reading.specs.Formula.{Formula, atom, not, list, quant, window, none, more, encode, encodes, record_bytes, field_bytes, list_no, Fits}
+use Rattle.reading.specs.Formula.{Formula, atom, not, list, quant, window, none, more, encode, encodes, record_bytes, field_bytes, Fits}
 use Rattle.reading.specs.Reading.{Exactly}
+use Rattle.reading.specs.Views.{shape_of}
+use Rattle.reading.specs.declared.Shape.{Shape}
 use Rattle.reading.proofs.Laws.{ints-long}
 use Rattle.reading.proofs.Lengths.{four-long}
 use Rattle.rules.specs.Lists.{decided, known}
 use Rattle.rules.specs.Eliminate.{Result, verdict_by, cleared, refused, delivered}
-use Rattle.writing.specs.Writing.{lay}
 use Rattle.elimination.specs.Stepping.{held, Stands}
-use Rattle.elimination.specs.Eliminating.{Gives}
-use Rattle.elimination.specs.declared.Reply.{Reply}
-use Rattle.writing.proofs.Lay.{length-lay, lay-whole}
+use Rattle.elimination.specs.Eliminating.{Reply, Gives}
 use Rattle.elimination.proofs.running.RunLaws.{held-is, stands-as, held-long}
 
--- ---- bytes at the start of a buffer
+-- ---- zeros at the start of a buffer
 
--- zeros over the first n bytes
-pub zeroed : (n : ℕ) (d : List ℕ) → n ≤ length d → lay 0 (zeros n) d ≡ zeros n ++ drop n d
-zeroed n d h =
-    let l : length (zeros n) ≡ n = length-replicate n 0 in
-    lay-whole 0 (zeros n) d (omega arith) ∙ ap (λ (k : ℕ). zeros n ++ drop k d) (zero-add (length (zeros n)) ∙ l)
-
--- b, then zeros up to n
-zeroed-after : (n : ℕ) (b d : List ℕ) → length b ≤ n → n ≤ length d → take (length b) d ≡ b → lay (length b) (zeros (n - length b)) d ≡ b ++ (zeros (n - length b) ++ drop n d)
-zeroed-after n b d h k e =
-    let l : length (zeros (n - length b)) ≡ n - length b = length-replicate (n - length b) 0 in
-    let m : length b + length (zeros (n - length b)) ≡ n = omega arith in
-    lay-whole (length b) (zeros (n - length b)) d (omega arith)
-    ∙ ap₂ (λ (x y : List ℕ). x ++ (zeros (n - length b) ++ y)) e (ap (λ (i : ℕ). drop i d) m)
+pub cleared-is : (d y : List ℕ) → y ≡ replicate (length (take result_bytes d)) 0 → result_bytes ≤ length d → y ++ drop result_bytes d ≡ cleared d
+cleared-is d y e h = ap (λ (z : List ℕ). z ++ drop result_bytes d) (e ∙ ap (λ (n : ℕ). replicate n 0) (length-take-le result_bytes d h))
 
 -- ---- the verdict
 
@@ -63,17 +51,15 @@ verdict-six (list b (more f fs)) d w h = absurd (omega (arith, four-long f, leng
 verdict-six (quant b v f) d w h = absurd (omega (arith, four-long f))
 verdict-six (window v lo hi) d w h = absurd (omega (arith, ints-long (lo ∷ hi ∷ [])))
 
--- the byte of the kind
-kind_at : (b : Bool) → get_or (encode (list b none)) 2 0 ≡ list_no b
-unfolding encode record_bytes field_bytes
-kind_at true = refl
-kind_at false = refl
+pub verdict-list : (n : ℕ) (s : List ℕ) → Exactly (take n s) (held n s) → n ≤ length s → n ≡ 6 → (b : Bool) × (held n s ≡ list b none)
+verdict-list n s x h e = verdict-six (held n s) result_levels x.fits (sym (ap length x.bytes) ∙ length-take-le n s h ∙ e)
 
-pub verdict-kind : (n : ℕ) (s : List ℕ) → Exactly (take n s) (held n s) → n ≤ length s → n ≡ 6 → (b : Bool) × (verdict_by (known (held n s)) ≡ cond b 1 0) × (get_or s 2 0 ≡ list_no b)
-verdict-kind n s x h e =
-    let l : length (encode (held n s)) ≡ 6 = sym (ap length x.bytes) ∙ length-take-le n s h ∙ e in
-    let g = verdict-six (held n s) result_levels x.fits l in
-    (g.0, ap (λ (f : Formula). verdict_by (known f)) g.1 ∙ sure-verdict g.0, sym (get_or-take n s 2 0 (omega arith)) ∙ ap (λ (b : List ℕ). get_or b 2 0) (x.bytes ∙ ap encode g.1) ∙ kind_at g.0)
+-- by what the record says
+pub verdict-said : {f : Formula} {b all : Bool} → f ≡ list b none → Shape.List all ≡ shape_of f → verdict_by (known f) ≡ cond all 1 0
+verdict-said {b = b} {all} e h =
+    let k : Shape.List all ≡ Shape.List b = h ∙ ap shape_of e in
+    let same : all ≡ b = cc in
+    ap (λ (f : Formula). verdict_by (known f)) e ∙ sure-verdict b ∙ ap (λ (y : Bool). cond y 1 0) (sym same)
   where
     sure-verdict : (b : Bool) → verdict_by (decided b) ≡ cond b 1 0
     sure-verdict true = refl
@@ -82,32 +68,29 @@ verdict-kind n s x h e =
 pub verdict-long : (n : ℕ) (s : List ℕ) → Exactly (take n s) (held n s) → n ≤ length s → (n ≡ 6 → ⊥) → verdict_by (known (held n s)) ≡ 2
 verdict-long n s x h e = verdict-other (held n s) result_levels x.fits (λ l. e (sym (length-take-le n s h) ∙ ap length x.bytes ∙ l))
 
-pub verdict-true : (b : Bool) → list_no b ≡ 5 → cond {A = ℕ} b 1 0 ≡ 1
-verdict-true true e = refl
-verdict-true false e = absurd (omega arith)
-
-pub verdict-false : (b : Bool) → (list_no b ≡ 5 → ⊥) → cond {A = ℕ} b 1 0 ≡ 0
-verdict-false true e = absurd (e refl)
-verdict-false false e = refl
-
 -- ---- what is delivered: zeros after the n bytes of a formula
 
-module _ {n : ℕ} {a : List ℕ} (s : Stands n a) (b : List ℕ) (z : b ≡ lay n (zeros (result_bytes - n)) a) where
-  pub result-is : b ≡ encode (held n a) ++ (zeros (result_bytes - length (encode (held n a))) ++ drop result_bytes a)
-  result-is =
-      let e = held-long n a s in
-      let few = s.few in
-      z ∙ ap (λ (k : ℕ). lay k (zeros (result_bytes - k)) a) (sym e)
-      ∙ zeroed-after result_bytes (encode (held n a)) a (omega arith) s.long (ap (λ (k : ℕ). take k a) e ∙ s.exactly.bytes)
+module _ {n : ℕ} {a : List ℕ} (s : Stands n a) (y : List ℕ) (z : y ≡ replicate (length (mid_of n (result_bytes - n) a)) 0) where
+  abbrev after : List ℕ
+  after = put_mid n (result_bytes - n) a y
 
-  result-take : take n b ≡ encode (held n a)
+  zeros-are : y ≡ zeros (result_bytes - length (encode (held n a)))
+  zeros-are = z ∙ ap zeros (mid_len n result_bytes a s.long ∙ ap (λ (k : ℕ). result_bytes - k) (sym (held-long n a s)))
+
+  pub result-is : after ≡ encode (held n a) ++ (zeros (result_bytes - length (encode (held n a))) ++ drop result_bytes a)
+  result-is = ap₂ (λ (b c : List ℕ). b ++ c) s.exactly.bytes (ap₂ (λ (b c : List ℕ). b ++ c) zeros-are (Post-is n result_bytes a s.few))
+
+  result-take : take n after ≡ encode (held n a)
   result-take = ap (take n) result-is ∙ take_at (encode (held n a)) (zeros (result_bytes - length (encode (held n a))) ++ drop result_bytes a) n (held-long n a s)
 
-  pub result-known : held n b ≡ held n a
-  result-known = held-is n b (held n a) s.exactly.fits result-take
+  pub result-known : held n after ≡ held n a
+  result-known = held-is n after (held n a) s.exactly.fits result-take
 
-  pub result-exactly : Exactly (take n b) (held n b)
-  result-exactly = (stands-as n b (held n a) s.exactly.fits result-take s.few (omega (arith, ap length z, length-lay n (zeros (result_bytes - n)) a, s.long))).exactly
+  result-long : length after ≡ length a
+  result-long = same_len_mid n (result_bytes - n) a y (ap length z ∙ length-replicate (length (mid_of n (result_bytes - n) a)) 0)
+
+  pub result-exactly : Exactly (take n after) (held n after)
+  result-exactly = (stands-as n after (held n a) s.exactly.fits result-take s.few (omega (arith, result-long, s.long))).exactly
 
 -- what is given where the finishing pass came to n bytes, for a sheet of m bytes: 12, or the result
 abbrev pub outcome : ℕ → ℕ → List ℕ → List ℕ → Result

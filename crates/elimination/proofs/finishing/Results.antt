@@ -2,10 +2,12 @@
 use Prim.Native.Nat.{ℕ, ◌≤◌, ◌<◌}
 use mathlib.Core.Path.{◌≡◌, refl, sym, ◌∙◌, ap, subst}
 use mathlib.Core.Bool.{Bool, true, false, cond}
-use mathlib.Core.List.{List}
-use native.Mathlib.Nat.{zero-add, min-le_right}
+use mathlib.Core.List.{List, ◌++◌}
+use native.Mathlib.Nat.{zero-add}
 use native.Mathlib.Omega.{arith}
-use lib.ListN.{length, take, drop, length-take}
+use lib.ListN.{length, take, drop}
+use lib.Seq.{take_at}
+use Rattle.std.proofs.lemmas.Slice.{drop-append-drop}
 use Rattle.reading.specs.Limits.{result_bytes}
 use Rattle.reading.specs.Formula.{Formula, list, none, encode}
 use Rattle.exact.specs.Atoms.{Spot, nowhere}
@@ -17,10 +19,10 @@ use Rattle.writing.specs.Writing.{lay, list_bytes}
 use Rattle.replacement.specs.Listing.{Come, big, come_by, come_of, Wrote}
 use Rattle.replacement.specs.Copying.{came}
 use Rattle.elimination.specs.Finishing.{FinishesIn}
-use Rattle.std.specs.Prelude.{Result, Ok, Err}
 use Rattle.replacement.specs.declared.Copied.{Copied}
 use Rattle.replacement.specs.declared.Came.TheVariants.{Decided, Kept}
 use Rattle.replacement.specs.declared.TooBig.{TooBig}
+use Rattle.std.specs.Prelude.{Result, Ok, Err}
 use Rattle.replacement.proofs.Outcomes.{come-back, sure-bytes, decided-is, kept-is}
 use Rattle.replacement.proofs.Outcomes.{big-is}
 use Rattle.writing.proofs.Lay.{lay-take, lay-drop}
@@ -71,22 +73,15 @@ module _ (f : Formula) {used : ℕ} {o₀ o : List ℕ} {r : Copied} (w : Wrote 
       record { answer = a.0; bytes = λ le. absurd (omega (arith, a.0)); rest = refl }
 
   -- the result was put
-  pub finish-put : (m : ℕ) (cur cur' : List ℕ) → result_bytes ≤ length cur → r.came ≡ Kept m → m ≤ result_bytes → cur' ≡ lay 0 (take m o) cur → FinishesIn f cur cur' m
-  finish-put m cur cur' long h le k =
+  pub finish-put : (m : ℕ) (cur b : List ℕ) → r.came ≡ Kept m → m ≤ result_bytes → b ≡ take m o → FinishesIn f cur (b ++ drop m cur) m
+  finish-put m cur b h le k =
       let a = stands m h in
-      let y : cur' ≡ lay 0 (encode (finished f)) cur = k ∙ ap (λ (l : List ℕ). lay 0 l cur) a.1 in
+      let y : b ≡ encode (finished f) = k ∙ a.1 in
       record {
         answer = a.0;
-        bytes = λ i. ap (take (length (encode (finished f)))) y ∙ laid (encode (finished f)) cur (omega arith);
-        rest = ap (drop result_bytes) y ∙ past (encode (finished f)) cur result_bytes (omega (arith, a.0));
+        bytes = λ i. take_at b (drop m cur) (length (encode (finished f))) (ap length y) ∙ y;
+        rest = drop-append-drop m cur b result_bytes le (ap length y ∙ sym a.0);
       }
-
-  -- the result stands in the output
-  pub finish-room : (m : ℕ) → r.came ≡ Kept m → m ≤ length o
-  finish-room m h =
-      let a = stands m h in
-      let l : length (take m o) ≡ m = ap length a.1 ∙ sym a.0 in
-      omega (arith, length-take m o, min-le_right m (length o))
 
 -- a number is never too big
 pub finish-never : (f : Formula) {used : ℕ} {o₀ o : List ℕ} {e : TooBig} → Wrote (come_of (finished f)) used 0 o₀ o (Err e) → ⊥

@@ -3,10 +3,10 @@
 use mathlib.Core.Path.{◌≡◌, refl, sym, ◌∙◌, ap, subst}
 use mathlib.Core.Bool.{Bool, true, false, cond}
 use mathlib.Core.List.{List}
-use Prim.Native.Nat.{ℕ, ◌+◌, ◌/◌}
+use Prim.Native.Nat.{ℕ, ◌+◌}
 use native.Mathlib.Omega.{arith}
 use lib.Dec.{eqb}
-use lib.ListN.{length, take, get_or}
+use lib.ListN.{length, take}
 use lib.Seq.{take_at}
 use lib.IntN.{ℤ}
 use borrow.Author.Tests.{eqb-true}
@@ -30,7 +30,7 @@ use Rattle.rules.specs.Copies.{atom_by, copy, fits}
 use Rattle.writing.specs.Writing.{lay}
 use Rattle.replacement.specs.Listing.{kept, big, come_of, kept_as, Wrote}
 use Rattle.replacement.specs.Copying.{came, Asks}
-use Rattle.replacement.specs.Marking.{Unchanged, Marked}
+use Rattle.replacement.specs.Marking.{Unchanged}
 use Rattle.replacement.specs.declared.Way.{Way}
 use Rattle.replacement.proofs.copying.Settling.{wrote_kept}
 
@@ -61,14 +61,6 @@ window-pushed (quant b v f) i neg = absurd i
 window-pushed (window v lo hi) i neg = refl
 
 -- ---- an atom that comes out as it is
-
--- by its mark; `unchanged` of MarkLaws says it by its numbers
-pub marked-atom : (x : ℕ) (ms : List Bool) (n : ℕ) (f : Formula) → IsAtom f → Marked x ms n f → get_or ms (n / 40) false ≡ true → Unchanged x f
-marked-atom x ms n (atom c ns) i m e = m e
-marked-atom x ms n (not f) i m e = absurd i
-marked-atom x ms n (list b fs) i m e = absurd i
-marked-atom x ms n (quant b v f) i m e = absurd i
-marked-atom x ms n (window v lo hi) i m e = absurd i
 
 plain-said : (v g : Bool) → cond v false g ≡ true → (v ≡ false) × (g ≡ true)
 plain-said true g e = let y : ◌≡◌ {A = ℕ} 0 1 = cc in absurd (omega arith)

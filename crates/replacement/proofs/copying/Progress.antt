@@ -2,7 +2,7 @@
 use mathlib.Core.Path.{◌≡◌, refl, sym, ◌∙◌, ap, ap₂, subst}
 use mathlib.Core.Bool.{Bool, false}
 use mathlib.Core.List.{List}
-use Prim.Native.Nat.{ℕ, ◌+◌, ◌≤◌, ◌<◌}
+use Prim.Native.Nat.{ℕ, ◌+◌, ◌≤◌}
 use native.Mathlib.Omega.{arith}
 use Rattle.std.specs.Prelude.{Ok, Err}
 use lib.ListN.{length, take}
@@ -11,7 +11,7 @@ use Rattle.reading.specs.Formula.{Comparison, Formulas, atom, none, count}
 use Rattle.exact.specs.Atoms.{Spot}
 use Rattle.replacement.specs.Copying.{came}
 use Rattle.replacement.proofs.copying.Sizes.{atom-size}
-use Rattle.replacement.specs.Listing.{Come, Tally, over, going, add, close, bytes_of, Wrote, opened_of, taken_of, At, Space, Closes}
+use Rattle.replacement.specs.Listing.{Come, Tally, over, going, add, close, bytes_of, Wrote, opened_of, taken_of, At, Closes}
 use Rattle.replacement.specs.declared.Copied.{Copied}
 use Rattle.replacement.specs.declared.TooBig.{TooBig}
 use Rattle.replacement.specs.declared.Open.{Open}
@@ -53,9 +53,6 @@ module _ {all : Bool} {t : Tally} {n z : ℕ} {l : Open} {to : ℕ} {o₀ o : Li
       let a = h.written in
       let e = big-is c used l.end o o' x w in
       (added c ∙ ap (add l.all (going l.fixed h.members)) e, keeps l.end (bytes_of c) o o' to w.bytes (omega (arith, a.until)) a.room ∙ a.front)
-
-  pub progress-space : n < 65536 → Space l (length o)
-  progress-space x = let a = h.written in record { low = omega (arith, a.from, a.until); high = a.room; few = omega (arith, a.many, h.few) }
 
   pub progress-end : (used : ℕ) (o' : List ℕ) (r : Copied) → Closes l used o o' r → Wrote (close all t) used to o₀ o' (Ok r)
   progress-end used o' r f = subst (λ (c : Come). Wrote c used to o₀ o' (Ok r)) (sym (ap₂ close (sym h.same) h.is)) (f h.members to o₀ h.written)

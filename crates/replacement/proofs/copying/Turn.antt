@@ -21,7 +21,7 @@ use Rattle.exact.specs.Atoms.{Ready, Spot, spot_of}
 use Rattle.rules.specs.Pushing.{under, push, pushs}
 use Rattle.rules.specs.Copies.{fits, fit_all}
 use Rattle.rules.proofs.Limits.Copies.{and_both}
-use Rattle.replacement.specs.Listing.{Come, truth, big, Tally, going, add, tally, close, Wrote, opened_of, taken_of, decided_as, Space, Closes}
+use Rattle.replacement.specs.Listing.{Come, truth, big, Tally, going, add, tally, close, Wrote, opened_of, taken_of, decided_as, Closes}
 use Rattle.replacement.specs.Copying.{came, Asks}
 use Rattle.replacement.specs.Marking.{Marked, AllMarked}
 use Rattle.replacement.specs.declared.Copied.{Copied}
@@ -33,7 +33,7 @@ use Rattle.replacement.proofs.listing.Tallying.{tally-over}
 use Rattle.replacement.proofs.copying.Settling.{came_all, came-early, came-list, retold, wrote-decided}
 use Rattle.replacement.proofs.copying.Sizes.{copy-size}
 use Rattle.replacement.proofs.copying.Sources.{has-marks}
-use Rattle.replacement.proofs.copying.Progress.{Progress, progress-open, progress-next, progress-big, progress-space, progress-end}
+use Rattle.replacement.proofs.copying.Progress.{Progress, progress-open, progress-next, progress-big, progress-end}
 
 -- before a turn: the members fs are left of the list that s begins with, from `at` on; those before them have the tally, of at most `most` members and
 -- `long` bytes, and stand in o
@@ -167,9 +167,6 @@ module _ {s : List ℕ} {neg : Bool} {way : Way} {q : Point} {to : ℕ} {ms : Li
       let x = progress-big t.written (came (spot_of q) (push neg f)) (length (encode f)) o' e (member-wrote t w) in
       let cs = came_all (spot_of q) (pushs neg fs) in
       (whole-next t ∙ ap (close t.all) (ap (λ (y : Tally). tally t.all y cs) x.0 ∙ tally-over t.all cs), x.1)
-
-  pub turn-space : (fs : Formulas) → Turn s neg way q to ms o₀ o l at left fs → Space l (length o)
-  turn-space fs t = progress-space t.written (omega (arith, t.few))
 
   pub turn_end : (fs : Formulas) (o' : List ℕ) (r : Copied) → Turn s neg way q to ms o₀ o l at left fs → left ≤ 0 → Closes l at o o' r
       → Wrote (came (spot_of q) (push neg (tree_of s))) (length (encode (tree_of s))) to o₀ o' (Ok r)

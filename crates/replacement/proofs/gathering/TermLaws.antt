@@ -20,7 +20,9 @@ use Rattle.reading.proofs.Lengths.{more-long}
 use Rattle.reading.proofs.Walking.{Inner, inner_of, Walk, walk_start, walk_begins, walk-tree, walk-next, walk_end}
 use Rattle.exact.specs.Numbers.{at, is_zero, same_row}
 use Rattle.exact.specs.Terms.{term_of, bound_of}
-use Rattle.exact.proofs.Rows.{same-pointwise}
+use Rattle.exact.proofs.Rows.{same-is, same_self}
+use Rattle.std.proofs.lemmas.Bool.Decides.{same_from_decides, Decides-int_eq}
+use Rattle.std.proofs.lemmas.Slice.Eq.{slice_eq-Decides}
 use Rattle.std.specs.List.{list_any}
 use Rattle.std.specs.Cmp.Lexicographic.{pointwise}
 use Rattle.std.specs.Ordering.{int_eq}
@@ -30,6 +32,11 @@ use Rattle.rules.specs.Points.{insert, gather, gather_all}
 use Rattle.replacement.specs.Gathering.{Row, Rows, Table, among, Gathers, Collected}
 
 -- ---- whether a term is among the rows
+
+-- the library's `==` on rows says what the test says
+same-pointwise : (a b : List ℤ) → pointwise int_eq a b ≡ same_row a b
+same-pointwise a b =
+    same_from_decides (pointwise int_eq a b) (same_row a b) (slice_eq-Decides Decides-int_eq a b (pointwise int_eq a b) refl) (same-is a b, λ e. subst (λ (c : List ℤ). same_row a c ≡ true) e (same_self a))
 
 module _ (t : List ℤ) where
   -- which is what the library's search answers

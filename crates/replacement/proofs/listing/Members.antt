@@ -1,6 +1,5 @@
 -- A list while it is written: its bytes after each member, and after the list rule. `at-taken` is the law of one member more. Assumes nothing.
 use mathlib.Core.Path.{◌≡◌, refl, sym, ◌∙◌, ap, ap₂, subst}
-use mathlib.Core.Bool as Bool
 use mathlib.Core.Bool.{Bool, true, false}
 use mathlib.Core.List.{List, [], ◌++◌, append_assoc, append-nil}
 use Prim.Native.Nat.{ℕ, ◌+◌, ◌-◌, ◌≤◌}
@@ -12,7 +11,7 @@ use lib.Seq.{paste, take-add, take_at, length-take-le}
 use Rattle.reading.specs.Formula.{Formula, Formulas, list, none, more, encode, encodes, count, record_bytes, field_bytes}
 use Rattle.reading.proofs.Lengths.{one-is}
 use Rattle.writing.specs.Writing.{lay, list_bytes}
-use Rattle.replacement.specs.Listing.{Come, truth, kept, big, going, snoc, add, close_of, bytes_of, Wrote, opened_of, decided_of, kept_of, taken_of, decided_as, kept_as, At}
+use Rattle.replacement.specs.Listing.{Come, truth, kept, big, going, snoc, add, close_of, bytes_of, Wrote, opened_of, decided_of, kept_of, taken_of, kept_as, At}
 use Rattle.replacement.specs.declared.Copied.{Copied}
 use Rattle.replacement.specs.declared.Open.{Open}
 use Rattle.replacement.proofs.Outcomes.{ok-is, not-ok}
@@ -113,16 +112,6 @@ pub nothing : (to : ℕ) (o₀ o : List ℕ) → take to o ≡ take to o₀ → 
 nothing to o₀ o e = ap (λ (n : ℕ). take n o) (add-zero to) ∙ e ∙ sym (append-nil (take to o₀))
 
 module _ (l : Open) (gs : Formulas) (to used : ℕ) (o₀ o : List ℕ) (a : At l gs to o₀ o) where
-  pub closed-fixed : l.fixed ≡ true → Wrote (close_of l.all l.fixed gs) used to o₀ o (decided_as used (Bool.not l.all))
-  closed-fixed e = subst (λ (x : Bool). Wrote (close_of l.all x gs) used to o₀ o (decided_as used (Bool.not l.all))) (sym e) (record { answer = refl; bytes = nothing to o₀ o a.front })
-
-  pub closed_none : l.fixed ≡ false → l.kept ≡ 0 → Wrote (close_of l.all l.fixed gs) used to o₀ o (decided_as used l.all)
-  closed_none e k = subst (λ (x : Bool). Wrote (close_of l.all x gs) used to o₀ o (decided_as used l.all)) (sym e) (go gs (sym a.many ∙ k))
-    where
-      go : (gs : Formulas) → count gs ≡ 0 → Wrote (close_of l.all false gs) used to o₀ o (decided_as used l.all)
-      go none h = record { answer = refl; bytes = nothing to o₀ o a.front }
-      go (more g gs) h = absurd (omega arith)
-
   body_is : take (length (encodes gs)) (drop (to + 6) o) ≡ encodes gs
   body_is = cancel (to + 6) l.end o (encodes gs) (let u = a.until in let w = a.room in omega arith) a.until a.body
 

@@ -10,21 +10,11 @@ use lib.Seq.{get_or-set_same, get_or-set_other}
 use Rattle.reading.specs.Limits.{tree_levels}
 use Rattle.reading.specs.Formula.{Formula, Formulas, atom, not, list, quant, window, none, more, label_of, size, encode, encodes, Fits}
 use Rattle.reading.specs.Reading.{tree_of, Exactly}
-use Rattle.reading.specs.Views.{IsAtom, numbers_of}
 use Rattle.reading.proofs.Scan.{◌and◌, rest_of}
 use Rattle.reading.proofs.Lengths.{none-long, atom-long, not-long, list-long, window-long, more-long, quant-long}
 use Rattle.reading.proofs.Trees.{begins}
-use Rattle.exact.specs.Numbers.{at, is_zero}
-use Rattle.replacement.specs.Marking.{is_plain, Unchanged, Marked, AllMarked}
+use Rattle.replacement.specs.Marking.{Unchanged, Marked, AllMarked}
 use Rattle.replacement.proofs.surveying.OverRecords.{Over, OverStep, over-begins, over-ends}
-
--- an atom without x that is plain
-pub unchanged : (x : ℕ) (f : Formula) → IsAtom f → is_zero (at (numbers_of f) x) ≡ true → is_plain (numbers_of f) ≡ true → Unchanged x f
-unchanged x (atom c ns) i z p = (z, p)
-unchanged x (not f) i z p = absurd i
-unchanged x (list b fs) i z p = absurd i
-unchanged x (quant b v f) i z p = absurd i
-unchanged x (window v lo hi) i z p = absurd i
 
 -- ---- places in the table
 

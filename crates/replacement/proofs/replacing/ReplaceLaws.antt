@@ -1,7 +1,6 @@
 -- The copies of a body at all points: the code's tally of them is 01's list of the copies under the list rule, and it is over exactly where a number
 -- does not fit (`tally-is`). Then what stands in the output once that list is closed, and what gathering found. Assumes nothing.
 use mathlib.Core.Path.{◌≡◌, refl, sym, ◌∙◌, ap, subst}
-use mathlib.Core.Bool as Bool
 use mathlib.Core.Bool.{Bool, true, false, ◌&&◌, cond}
 use mathlib.Core.List.{List, [], ◌∷◌}
 use Prim.Native.Nat.{ℕ, ◌+◌, ◌*◌, ◌≤◌, ◌<◌}
@@ -119,10 +118,6 @@ sure-put v o o' h e =
       short = λ s. (sym (sure-long v), ap (λ (n : ℕ). take n o') (let z : 6 ≡ 0 + length b = omega (arith, sure-long v) in z) ∙ t);
       long = λ s. omega (arith, sure-long v);
     }
-
-pub put-fixed : (all x : Bool) (gs : Formulas) (v : Bool) (o : List ℕ) (n : ℕ) → x ≡ true → v ≡ Bool.not all → Put (list v none) o n → Put (formula_for (close_of all x gs)) o n
-put-fixed all x gs v o n e h p =
-    subst (λ (y : Bool). Put (formula_for (close_of all y gs)) o n) (sym e) (subst (λ (b : Bool). Put (list b none) o n) h p)
 
 put-over : (c : Come) (o : List ℕ) (n : ℕ) → result_bytes < length (bytes_of c) → result_bytes < n → Put (formula_for c) o n
 put-over (truth b) o n h k = absurd (omega arith)

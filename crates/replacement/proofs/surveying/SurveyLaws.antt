@@ -1,7 +1,7 @@
 -- What a look over a body sees of its records one by one, it sees of the whole: what is seen of an atom and of a WINDOW stays seen, and at each record what is
 -- left is a list of formulas, which gives the whole once it is seen. And the test that no number is too big is the bound of `tame`.
-use mathlib.Core.Path.{◌≡◌, refl, sym, ◌∙◌, ap, subst}
-use mathlib.Core.Bool.{Bool, true, false, cond, true≢false}
+use mathlib.Core.Path.{◌≡◌, refl, sym, ap, subst}
+use mathlib.Core.Bool.{Bool, true, false, cond}
 use mathlib.Core.List.{List}
 use Prim.Native.Nat.{ℕ, zero, suc, ◌+◌, ◌*◌, ◌≤◌, ◌<◌, zero-le}
 use native.Mathlib.Nat.{le_refl, le_trans, mul-le-mul}
@@ -13,10 +13,9 @@ use lib.IntN.{ℤ, pos, nat_abs}
 use Rattle.reading.specs.Limits.{M}
 use Rattle.reading.specs.Formula.{Comparison, Formula, Formulas, atom, not, list, quant, window, none, more, label_of, size, encode}
 use Rattle.reading.specs.Reading.{tree_of, Begins}
-use Rattle.reading.specs.Views.{shape_of, IsAtom, IsWindow, numbers_of, window_of}
-use Rattle.reading.specs.declared.Shape.{Shape}
+use Rattle.reading.specs.Views.{IsAtom, numbers_of}
 use Rattle.reading.proofs.Scan.{◌and◌, rest_of}
-use Rattle.exact.specs.Numbers.{at, is_zero}
+use Rattle.exact.specs.Numbers.{at}
 use Rattle.exact.specs.Terms.{left_at}
 use Rattle.rules.specs.Tame.{AllBounded, or_one, tame}
 use Rattle.replacement.specs.declared.Survey.{Survey}
@@ -37,26 +36,6 @@ leaf-grows x (not f) g l = tt
 leaf-grows x (list b fs) g l = tt
 leaf-grows x (quant b y f) g l = tt
 leaf-grows x (window y lo hi) g l = λ e. (le_trans (l e).0 g.most, le_trans (l e).1 g.other, le_trans (l e).2 g.other)
-
--- ---- one atom
-
-pub atom-without : (x : ℕ) {v : Survey} (ns : List ℤ) → Small v → is_zero (at ns x) ≡ true → Grows v v × ((c : Comparison) → Sees x v (atom c ns))
-atom-without x ns s z = (grows_self s, λ c n. absurd (true≢false (sym z ∙ n)))
-
--- with x: a and t bound its numbers too
-pub atom-with : (x : ℕ) {v : Survey} (ns : List ℤ) (a t : ℕ) → (v.most ≤ a) × (nat_abs (at ns x) ≤ a) × (a ≤ M)
-    → (v.other ≤ t) × ((i : ℕ) → nat_abs (left_at ns x i) ≤ t) × (t ≤ M)
-    → let r : Survey = record { most = a; other = t } in Grows v r × ((c : Comparison) → Sees x r (atom c ns))
-atom-with x ns a t h k = (record { most = h.0; other = k.0; small = record { most = h.2; other = k.2 } }, λ c _. (h.1, k.1))
-
--- ---- one WINDOW
-
-pub window-without : (x y : ℕ) {v : Survey} (lo hi : ℤ) → Small v → eqb y x ≡ false → Grows v v × Sees x v (window y lo hi)
-window-without x y lo hi s e = (grows_self s, λ h. absurd (true≢false (sym h ∙ e)))
-
-pub window-with : (x y : ℕ) {v : Survey} (lo hi : ℤ) (a t : ℕ) → (v.most ≤ a) × (1 ≤ a) × (a ≤ M) → (v.other ≤ t) × (nat_abs lo ≤ t) × (nat_abs hi ≤ t) × (t ≤ M)
-    → let r : Survey = record { most = a; other = t } in Grows v r × Sees x r (window y lo hi)
-window-with x y lo hi a t h k = (record { most = h.0; other = k.0; small = record { most = h.2; other = k.3 } }, λ _. (h.1, k.1, k.2))
 
 -- ---- the numbers of a row, that of x left out
 
@@ -97,28 +76,6 @@ leaf-atom x r (list b fs) i h = absurd i
 leaf-atom x r (quant b y f) i h = absurd i
 leaf-atom x r (window y lo hi) i h = absurd i
 
-pub leaf-window : (x : ℕ) (r : Survey) (f : Formula) → IsWindow f → Sees x r (window (window_of f).variable (window_of f).lo (window_of f).hi) → SeesLeaf x r f
-leaf-window x r (atom c ns) i h = absurd i
-leaf-window x r (not f) i h = absurd i
-leaf-window x r (list b fs) i h = absurd i
-leaf-window x r (quant b y f) i h = absurd i
-leaf-window x r (window y lo hi) i h = h
-
--- the other records have no numbers
-abbrev pub has_numbers : Shape → Bool
-has_numbers (Shape.Atom c) = true
-has_numbers Shape.Not = false
-has_numbers (Shape.List b) = false
-has_numbers (Shape.Quantifier b) = false
-has_numbers Shape.Window = true
-
-pub leaf-other : (x : ℕ) (r : Survey) (f : Formula) → has_numbers (shape_of f) ≡ false → SeesLeaf x r f
-leaf-other x r (atom c ns) e = absurd (true≢false e)
-leaf-other x r (not f) e = tt
-leaf-other x r (list b fs) e = tt
-leaf-other x r (quant b y f) e = tt
-leaf-other x r (window y lo hi) e = absurd (true≢false e)
-
 -- ---- formulas one after the other
 
 bounded-apart : (x a t : ℕ) (fs gs : Formulas) → AllBounded x a t (fs and gs) → AllBounded x a t fs × AllBounded x a t gs
@@ -153,10 +110,6 @@ pub look-ends : {s : List ℕ} {n x : ℕ} {v : Survey} {p : ℕ} → Looking s 
 look-ends {s} {n} {x} {v} w h = over-ends w.over h v (grows_self w.small) tt
 
 -- ---- no number of a step is too big
-
--- twice the product of two numbers of a sheet fits in 64 bits
-pub doubled-small : (a m : ℕ) → a ≤ M → m ≤ M → 2 * m * a < 18446744073709551616
-doubled-small a m h k = omega (arith, mul-le-mul k h)
 
 pub tame-is : (a t m : ℕ) → (t ≤ m) × (1 ≤ m) → 2 * a * (2 * m * a) ≤ M → tame a t ≡ true
 unfolding tame

@@ -4,7 +4,7 @@ use mathlib.Core.Bool.{Bool, true, false, true≢false}
 use mathlib.Core.List.{List, [], ◌∷◌, ◌++◌}
 use Prim.Native.Nat.{ℕ, ◌+◌, ◌≤◌, ◌<◌}
 use native.Mathlib.Omega.{arith}
-use Rattle.std.specs.Prelude.{Result, Ok, Err}
+use Rattle.std.specs.Prelude.{Result, Ok}
 use lib.ListN.{length, take}
 use lib.Dec.{ltb}
 use borrow.Author.Tests.{ltb-true, ltb-false}
@@ -14,8 +14,7 @@ use Rattle.replacement.specs.Listing.{Come, truth, kept, big, bytes_of, copied_o
 use Rattle.replacement.specs.Trying.{kept_by, kept_in, joined_of, Live, Stays, Lists, Tries}
 use Rattle.replacement.specs.declared.Copied.{Copied}
 use Rattle.replacement.specs.declared.TooBig.{TooBig}
-use Rattle.replacement.specs.declared.Unmade.TheVariants as Unmade
-use Rattle.replacement.proofs.Outcomes.{ok-is, not-ok, big-is}
+use Rattle.replacement.proofs.Outcomes.{ok-is, not-ok}
 use Rattle.replacement.specs.declared.Copies.{Copies}
 use Rattle.reading.proofs.Lengths.{list-long, four-long, none-long, one-is}
 use Rattle.replacement.proofs.listing.Members.{snoc-long, at-decided, at-kept}
@@ -87,13 +86,6 @@ module _ (b : ℕ) (c : Copies) (d : Come) (used : ℕ) (o o' : List ℕ) where
           go (truth v) k i n = subst (λ (y : Copied). Lists all (add all (going x gs) (truth v)) (joined_of c y.came) o₀ o') (sym (ok-is i)) (next-decided all x gs c o₀ o o' l s v n)
           go (kept g) k i n = subst (λ (y : Copied). Lists all (add all (going x gs) (kept g)) (joined_of c y.came) o₀ o') (sym (ok-is i)) (next-kept all x gs c o₀ o o' l s g c.over refl k n)
           go big k i n = absurd (not-ok i)
-
-  pub next-big : (e : TooBig) → Wrote d used c.list.end o o' (Err e) → Tries b c (d ∷ []) o o' (Err Unmade.Big)
-  next-big e w = record { tells = λ all t o₀ l. next all t }
-    where
-      next : (all : Bool) (t : Tally) → add all t d ≡ over
-      next all over = refl
-      next all (going x gs) = ap (add all (going x gs)) (big-is d used c.list.end o o' e w)
 
 -- ---- the end: a list that lives and is too long is longer than any result, as a list or as its one member
 

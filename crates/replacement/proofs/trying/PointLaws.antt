@@ -10,7 +10,6 @@ use Rattle.std.specs.Prelude.{Result, Ok, Err}
 use lib.ListN.{length, take, drop, get_or, length-drop, drop_of_length-le}
 use lib.Seq.{drop-cons, take_all}
 use lib.IntN.{ℤ}
-use Rattle.reading.specs.Limits.{result_bytes}
 use Rattle.reading.specs.Formula.{Formula, Formulas, none}
 use Rattle.exact.specs.Terms.{midpoint}
 use Rattle.exact.specs.Atoms.{Spot, below, above, here, spot_by, Bounded}
@@ -113,13 +112,6 @@ module _ (b : ℕ) (c : Copies) (q : Spot) (p : Formula) (o o' : List ℕ) (x : 
   pub try-fits : spot_fits q ≡ true → Tries b c (came q p ∷ []) o o' x → Tries b c (try_all (q ∷ []) p) o o' x
   try-fits e = subst (λ (z : Bool). Tries b c (cond z (came q p) big ∷ []) o o' x) (sym e)
 
-pub try-big : (b : ℕ) (c : Copies) (q : Spot) (p : Formula) (o o' : List ℕ) → spot_fits q ≡ false → Tries b c (try_all (q ∷ []) p) o o' (Err Big)
-try-big b c q p o o' e = record { tells = λ all t o₀ l. ap (λ (y : Bool). add all t (cond y (came q p) big)) e ∙ go all t }
-  where
-    go : (all : Bool) (t : Tally) → add all t big ≡ over
-    go all over = refl
-    go all (going x gs) = refl
-
 -- the numbers of the body at the one spot fit
 pub one-sure : (body : Body) (q : Spot) (p : Formula) → Sure body (q ∷ []) p → body.way.calm ≡ true → fits q p ≡ true
 one-sure body q p h k = (one-fits q [] p (h k)).1
@@ -142,13 +134,6 @@ opened-lists all o h =
       few = omega arith;
       live = λ n. record { written = λ e. at-opened all 0 o h; large = λ e. absurd (true≢false (sym e)) };
     }
-
-pub holding-bounds : {c : Copies} {o : List ℕ} → Holding c o → (c.list.end ≤ result_bytes + 6) × (c.list.kept ≤ result_bytes + 6)
-holding-bounds {c} {o} h = go h.so_far h.lists
-  where
-    go : (t : Tally) → Lists h.all t c h.before o → (c.list.end ≤ result_bytes + 6) × (c.list.kept ≤ result_bytes + 6)
-    go over b = absurd b
-    go (going x gs) l = let e = l.end in let k = l.few in (e, omega arith)
 
 -- ---- how far the code has come
 

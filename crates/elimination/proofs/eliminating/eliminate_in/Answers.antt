@@ -1,85 +1,46 @@
--- `eliminate_in`:  1 for a buffer or a room that is too short, then what reading refuses, then the elimination of the sheet that was read. Of the room only
+-- `eliminate_in`: 1 for a buffer or a room that is too short, then what reading refuses, then the elimination of the sheet that was read. Of the room only
 -- the first 524,288 bytes are lent.
-use mathlib.Core.Path.{◌≡◌, refl, sym, ◌∙◌, ap, subst}
-use mathlib.Core.List.{◌++◌}
-use Prim.Native.Nat.{ℕ, ◌≤◌, ◌<◌}
-use lib.ListN.{length, take, drop}
-use lib.Seq.{length-take-le, length_front}
-use Rattle.reading.specs.Limits.{sheet_bytes, sheet_levels}
-use Rattle.reading.specs.Answers.{reading}
-use Rattle.reading.specs.Answers as Answers
+use mathlib.Core.Path.{sym, ◌∙◌, subst}
+use lib.ListN.{length, take}
+use Rattle.std.proofs.lemmas.Result.{err_from_is_err_and}
+use Rattle.reading.specs.Answers.{refusal_no}
+use Rattle.reading.specs.Reading.{tree_of}
+use Rattle.reading.specs.declared.Refusal.TheVariants.{SmallBuffer}
 use Rattle.rules.specs.Eliminate.{Result, eliminate_in, room_bytes}
-use Rattle.rules.proofs.Answers.{in-room, room_small, in_small}
+use Rattle.rules.proofs.Answers.{in-room}
 use Rattle.elimination.specs.Eliminating.{Accepted, Gives}
-use Rattle.elimination.proofs.eliminating.Carrying.{reading-accepts, sheet-accepted, sheet-refused, result-small, work-small, gives-no, lent-long, lent-rest}
+use Rattle.elimination.proofs.eliminating.Carrying.{reading-accepts, sheet-accepted, sheet-refused, any-small, gives-no, carried-done, carried-ok, lent-long, lent-rest}
 use Rattle.elimination.proofs.eliminating.eliminate_in.Goals as goal
-use Rattle.elimination.proofs.eliminating.eliminate_in.Goals.{Else-room-least, After-number}
+use Rattle.elimination.proofs.eliminating.eliminate_in.Goals.{In_ok-read}
 
--- the room is long enough
-enough : (c : Else-room-least) → room_bytes ≤ length c.args.room.now
-enough c = subst (λ (n : ℕ). n ≤ length c.args.room.now) c.room_asked-least.ensures c.if-room-least.false
+pub returns-then-res-lt-RESULT_BYTES-clause-gives : goal.returns-then-res-lt-RESULT_BYTES-clause-gives
+returns-then-res-lt-RESULT_BYTES-clause-gives c = let a = c.args in
+    gives-no (record { why = SmallBuffer; place = 0 }) a.res.now a.work.now (eliminate_in (length a.room.now) a.sheet.now a.res.now a.work.now) (any-small (length a.room.now) a.sheet.now a.res.now a.work.now c.then-res-lt-RESULT_BYTES.either)
 
--- what reading refuses, by its number
-was : (c : After-number) → reading sheet_bytes sheet_levels c.args.sheet.now ≡ Answers.Refused c.number.result c.in-Err.r.place
-was c = sym c.in-Err.ensures ∙ ap (λ (n : ℕ). Answers.Refused n c.in-Err.r.place) (sym c.number.ensures)
+pub returns-in_err-read-clause-gives : goal.returns-in_err-read-clause-gives
+returns-in_err-read-clause-gives c =
+    let a = c.args in
+    let p = err_from_is_err_and c.from_residual.result c.from_residual.ensures.1 in
+    let r = c.in_err-read.field-0.0 in
+    rw (p.1, p.2) (gives-no r a.res.now a.work.now (eliminate_in (length a.room.now) a.sheet.now a.res.now a.work.now)
+    (in-room (length a.room.now) a.sheet.now a.res.now a.work.now c.if-room-lt-ROOM.false
+    ∙ sheet-refused a.sheet.now a.res.now a.work.now (refusal_no r.why) r.place (sym c.in_err-read.ensures) c.if-res-lt-RESULT_BYTES.false c.if-work-lt-RESULT_BYTES.false))
 
-pub returns-then-res-lt-RESULT_BYTES : goal.returns-then-res-lt-RESULT_BYTES
-returns-then-res-lt-RESULT_BYTES c = (
-  gives-no 1 0 c.args.res.now c.args.work.now c.refused.result (eliminate_in (length c.args.room.now) c.args.sheet.now c.args.res.now c.args.work.now)
-      (in_small (length c.args.room.now) c.args.sheet.now c.args.res.now c.args.work.now (result-small c.args.sheet.now c.args.res.now c.args.work.now c.if-res-lt-RESULT_BYTES.true)) c.refused.ensures,
-  refl,
-)
+allowed : (c : In_ok-read) → Accepted c.args.sheet.now
+allowed c = reading-accepts c.args.sheet.now c.in_ok-read.field-0 (λ i. (c.type_inv.sheet i).fits) (sym c.in_ok-read.ensures)
 
-pub returns-then-work-lt-RESULT_BYTES : goal.returns-then-work-lt-RESULT_BYTES
-returns-then-work-lt-RESULT_BYTES c = (
-  gives-no 1 0 c.args.res.now c.args.work.now c.refused-then-work-lt-RESULT_BYTES.result (eliminate_in (length c.args.room.now) c.args.sheet.now c.args.res.now c.args.work.now)
-      (in_small (length c.args.room.now) c.args.sheet.now c.args.res.now c.args.work.now (work-small c.args.sheet.now c.args.res.now c.args.work.now c.if-res-lt-RESULT_BYTES.false c.if-work-lt-RESULT_BYTES.true)) c.refused-then-work-lt-RESULT_BYTES.ensures,
-  refl,
-)
+pub begun-requires-clause-accepted : goal.begun-requires-clause-accepted
+begun-requires-clause-accepted c = allowed (goal.at.begun-requires-clause-accepted c).In_ok-read
 
-pub returns-then-room-least : goal.returns-then-room-least
-returns-then-room-least c = (
-  gives-no 1 0 c.args.res.now c.args.work.now c.refused-then-room-least.result (eliminate_in (length c.args.room.now) c.args.sheet.now c.args.res.now c.args.work.now)
-      (room_small (length c.args.room.now) c.args.sheet.now c.args.res.now c.args.work.now (subst (λ (n : ℕ). length c.args.room.now < n) c.room_asked-least.ensures c.if-room-least.true)) c.refused-then-room-least.ensures,
-  refl,
-)
+pub unwrap-requires : goal.unwrap-requires
+unwrap-requires c = let a = c.args in
+    carried-ok (tree_of a.sheet.now) (length a.sheet.now) (length (take room_bytes a.room.now)) a.res.now c.begun.new.res a.work.now c.begun.new.work c.begun.result c.begun.ensures.carries (lent-long room_bytes a.room.now c.if-room-lt-ROOM.false)
 
-pub slice_bounds-accepted_in-end : goal.slice_bounds-accepted_in-end
-slice_bounds-accepted_in-end c = c.if-room-least.false
-
-pub slice_bounds-accepted_in-end-in-Ok : goal.slice_bounds-accepted_in-end-in-Ok
-slice_bounds-accepted_in-end-in-Ok c = sym (length-take-le c.room_asked-least.result c.args.room.now c.if-room-least.false)
-
-pub accepted_in-c-requires : goal.accepted_in-c-requires
-accepted_in-c-requires c =
-    let was_read : reading sheet_bytes sheet_levels c.args.sheet.now ≡ Answers.Done c.in-Ok.field-0 = sym c.in-Ok.ensures in
-    let allowed : Accepted c.args.sheet.now = reading-accepts c.args.sheet.now c.in-Ok.field-0 (λ i. (c.type_inv.sheet i).fits) was_read in
-    let room = c.args.room.now in record { accepted = allowed; result_bytes_in_bounds = (c.if-res-lt-RESULT_BYTES.false, c.if-work-lt-RESULT_BYTES.false); room_bytes_in_bounds = subst (λ (n : ℕ). n ≤ length (take c.room_asked-least.result room)) c.room_asked-least.ensures (lent-long c.room_asked-least.result room c.if-room-least.false) }
-
-pub returns-in-Err : goal.returns-in-Err
-returns-in-Err c = (
-  gives-no c.number.result c.in-Err.r.place c.args.res.now c.args.work.now c.refused-in-Err.result (eliminate_in (length c.args.room.now) c.args.sheet.now c.args.res.now c.args.work.now)
-      (in-room (length c.args.room.now) c.args.sheet.now c.args.res.now c.args.work.now (enough (goal.at.returns-in-Err c).Else-room-least)
-      ∙ sheet-refused c.args.sheet.now c.args.res.now c.args.work.now c.number.result c.in-Err.r.place (was (goal.at.returns-in-Err c).After-number) c.if-res-lt-RESULT_BYTES.false c.if-work-lt-RESULT_BYTES.false) c.refused-in-Err.ensures,
-  refl,
-)
-
-pub shape_of-res : goal.shape_of-res
-shape_of-res c = c.accepted_in-c.auto.res
-
-pub shape_of-work : goal.shape_of-work
-shape_of-work c = c.accepted_in-c.auto.work
-
-pub shape_of-room : goal.shape_of-room
-shape_of-room c = length_front c.args.room.now c.accepted_in-c.new.room c.room_asked-least.result c.accepted_in-c.auto.room
-
-pub returns-in-Ok : goal.returns-in-Ok
-returns-in-Ok c =
-    let was_read : reading sheet_bytes sheet_levels c.args.sheet.now ≡ Answers.Done c.in-Ok.field-0 = sym c.in-Ok.ensures in
-    let allowed : Accepted c.args.sheet.now = reading-accepts c.args.sheet.now c.in-Ok.field-0 (λ i. (c.type_inv.sheet i).fits) was_read in (
-      subst (λ (o : Result). Gives o c.accepted_in-c.result.reply c.accepted_in-c.new.res c.accepted_in-c.new.work)
-          (sym (in-room (length c.args.room.now) c.args.sheet.now c.args.res.now c.args.work.now (enough (goal.at.returns-in-Ok c).Else-room-least)
-          ∙ sheet-accepted c.args.sheet.now c.args.res.now c.args.work.now c.in-Ok.field-0 was_read allowed c.if-res-lt-RESULT_BYTES.false c.if-work-lt-RESULT_BYTES.false))
-          c.accepted_in-c.ensures.0,
-      subst (λ (n : ℕ). drop n (c.accepted_in-c.new.room ++ drop c.room_asked-least.result c.args.room.now) ≡ drop n c.args.room.now) c.room_asked-least.ensures (lent-rest c.room_asked-least.result c.args.room.now c.accepted_in-c.new.room c.if-room-least.false c.accepted_in-c.auto.room),
-    )
+pub returns : goal.returns
+returns c = let a = c.args in record {
+  gives = subst (λ (o : Result). Gives o c.unwrap.result c.begun.new.res c.begun.new.work)
+      (sym (in-room (length a.room.now) a.sheet.now a.res.now a.work.now c.if-room-lt-ROOM.false
+      ∙ sheet-accepted a.sheet.now a.res.now a.work.now c.in_ok-read.field-0 (sym c.in_ok-read.ensures) (allowed (goal.at.returns c).In_ok-read) c.if-res-lt-RESULT_BYTES.false c.if-work-lt-RESULT_BYTES.false))
+      (carried-done (tree_of a.sheet.now) (length a.sheet.now) (length (take room_bytes a.room.now)) a.res.now c.begun.new.res a.work.now c.begun.new.work c.begun.ensures.carries c.unwrap.result c.unwrap.ensures);
+  rest = lent-rest room_bytes a.room.now c.begun.new.room c.if-room-lt-ROOM.false c.begun.auto.room;
+}

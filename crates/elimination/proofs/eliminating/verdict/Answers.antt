@@ -1,19 +1,21 @@
 -- `verdict`: six bytes are the true or the false record, whose kind tells which.
-use mathlib.Core.Path.{sym, ◌∙◌}
-use native.Mathlib.Omega.{arith}
-use Rattle.elimination.proofs.eliminating.Delivery.{verdict-kind, verdict-long, verdict-true, verdict-false}
+use mathlib.Core.Path.{sym, ◌∙◌, ap}
+use mathlib.Core.Bool.{Bool, cond}
+use Rattle.reading.specs.Views.{shape_of}
+use Rattle.elimination.proofs.eliminating.Delivery.{verdict-list, verdict-said, verdict-long}
 use Rattle.elimination.proofs.eliminating.verdict.Goals as goal
 
-pub returns-then-len-ne6 : goal.returns-then-len-ne6
-returns-then-len-ne6 c = sym (verdict-long c.args.len c.args.res.now c.requires.exactly c.requires.len_in_bounds c.if-len-ne6.true)
+pub returns-then-len-ne-LIST_BYTES : goal.returns-then-len-ne-LIST_BYTES
+returns-then-len-ne-LIST_BYTES c = sym (verdict-long c.args.len c.args.res.now c.requires.exactly c.requires.len_in_bounds c.if-len-ne-LIST_BYTES.true)
 
-pub bounds-res-2 : goal.bounds-res-2
-bounds-res-2 c = omega (arith, c.if-len-ne6.false, c.requires.len_in_bounds)
+pub unreachable-requires : goal.unreachable-requires
+unreachable-requires c = let l = verdict-list c.args.len c.args.res.now c.requires.exactly c.requires.len_in_bounds c.if-len-ne-LIST_BYTES.false in
+    c.in_default.not-List l.0 (c.shape_at.ensures ∙ ap shape_of l.1)
 
-pub returns-then-res-eq5 : goal.returns-then-res-eq5
-returns-then-res-eq5 c = let w = verdict-kind c.args.len c.args.res.now c.requires.exactly c.requires.len_in_bounds c.if-len-ne6.false in
-    sym (w.1 ∙ verdict-true w.0 (sym w.2 ∙ c.if-res-eq5.true))
+pub returns-then-all : goal.returns-then-all
+returns-then-all c = let l = verdict-list c.args.len c.args.res.now c.requires.exactly c.requires.len_in_bounds c.if-len-ne-LIST_BYTES.false in
+    sym (verdict-said l.1 c.in-List.ensures ∙ ap (λ (y : Bool). cond y 1 0) c.if-all.true)
 
-pub returns : goal.returns
-returns c = let w = verdict-kind c.args.len c.args.res.now c.requires.exactly c.requires.len_in_bounds c.if-len-ne6.false in
-    sym (w.1 ∙ verdict-false w.0 (λ e. c.if-res-eq5.false (w.2 ∙ e)))
+pub returns-else-all : goal.returns-else-all
+returns-else-all c = let l = verdict-list c.args.len c.args.res.now c.requires.exactly c.requires.len_in_bounds c.if-len-ne-LIST_BYTES.false in
+    sym (verdict-said l.1 c.in-List.ensures ∙ ap (λ (y : Bool). cond y 1 0) c.if-all.false)

@@ -1,9 +1,10 @@
--- `finish_in`: the copy at no point is the result; true and false are their records, and what is kept is put at the start of the buffer.
+-- The copy at no point is the result; true and false are their records, and what is kept is put at the start of the buffer.
+use mathlib.Core.Path.{refl}
 use lib.ListN.{length}
 use mathlib.Core.Bool.{false}
 use Rattle.std.specs.Prelude.{Result}
 use Rattle.reading.specs.Formula.{encode}
-use Rattle.exact.specs.Atoms.{spot_of}
+use Rattle.exact.specs.Atoms.{nowhere}
 use Rattle.rules.specs.Pushing.{push}
 use Rattle.rules.specs.Eliminate.{finished}
 use Rattle.replacement.specs.Listing.{come_of, Wrote}
@@ -17,17 +18,17 @@ use Rattle.elimination.proofs.finishing.finish_in.Goals.{After-copied}
 
 -- what was copied is the result, true or false
 wrote : (c : After-copied) {r : Result Copied TooBig} → let f = held c.args.len c.args.cur.now in
-    Wrote (came (spot_of c.no_point.result) (push false f)) (length (encode f)) 0 c.args.out.now c.copied.new.out r → Wrote (come_of (finished f)) (length (encode f)) 0 c.args.out.now c.copied.new.out r
-wrote c = finish-wrote (held c.args.len c.args.cur.now) (spot_of c.no_point.result) c.no_point.ensures.1 c.requires.unquantified.numbers
+    Wrote (came nowhere (push false f)) (length (encode f)) 0 c.args.out.now c.copied.new.out r → Wrote (come_of (finished f)) (length (encode f)) 0 c.args.out.now c.copied.new.out r
+wrote c = finish-wrote (held c.args.len c.args.cur.now) nowhere refl c.requires.unquantified.numbers
 
 pub returns-in-Decided : goal.returns-in-Decided
 returns-in-Decided c = finish-sure (held c.args.len c.args.cur.now) (wrote (goal.at.returns-in-Decided c).After-copied c.in-Ok.ensures) c.in-Decided.v c.args.cur.now c.put_list.new.d c.requires.unquantified.stands.long c.in-Decided.is c.put_list.ensures
 
 pub returns-then-e-le-RESULT_BYTES : goal.returns-then-e-le-RESULT_BYTES
-returns-then-e-le-RESULT_BYTES c = finish-put (held c.args.len c.args.cur.now) (wrote (goal.at.returns-then-e-le-RESULT_BYTES c).After-copied c.in-Ok.ensures) c.in-Kept.e c.args.cur.now c.paste.new.d c.requires.unquantified.stands.long c.in-Kept.is c.if-e-le-RESULT_BYTES.true c.paste.ensures
+returns-then-e-le-RESULT_BYTES c = finish-put (held c.args.len c.args.cur.now) (wrote (goal.at.returns-then-e-le-RESULT_BYTES c).After-copied c.in-Ok.ensures) c.in-Kept.e c.args.cur.now c.copy_from_slice.new.self c.in-Kept.is c.if-e-le-RESULT_BYTES.true c.copy_from_slice.ensures.after
 
 pub returns-else-e-le-RESULT_BYTES : goal.returns-else-e-le-RESULT_BYTES
 returns-else-e-le-RESULT_BYTES c = finish-long (held c.args.len c.args.cur.now) (wrote (goal.at.returns-else-e-le-RESULT_BYTES c).After-copied c.in-Ok.ensures) c.in-Kept.e c.args.cur.now c.in-Kept.is c.if-e-le-RESULT_BYTES.false
 
-pub returns-in-Err : goal.returns-in-Err
-returns-in-Err c = absurd (finish-never (held c.args.len c.args.cur.now) (wrote (goal.at.returns-in-Err c).After-copied c.in-Err.ensures))
+pub unreachable-requires : goal.unreachable-requires
+unreachable-requires c = finish-never (held c.args.len c.args.cur.now) (wrote (goal.at.unreachable-requires c).After-copied c.in_default.ensures)

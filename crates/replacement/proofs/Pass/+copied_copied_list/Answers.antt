@@ -3,6 +3,7 @@ use mathlib.Core.Path.{◌≡◌, refl, sym, ap, ◌∙◌}
 use mathlib.Core.Bool.{Bool, true, false, not, beq}
 use Prim.Native.Nat.{ℕ, ◌+◌, ◌-◌}
 use native.Mathlib.Omega.{arith}
+use Rattle.std.proofs.Math.Nat.{sub-zero}
 use Rattle.reading.specs.Reading.{tree_of}
 use Rattle.reading.specs.Views.{shape_of, IsWindow}
 use Rattle.reading.specs.declared.Shape.TheVariants as Shape
@@ -26,9 +27,6 @@ turned true false = refl
 turned false true = refl
 turned false false = refl
 
-sub-zero : (n : ℕ) → n - 0 ≡ n
-sub-zero n = omega arith
-
 -- it is NOT of a formula; it is a WINDOW
 is-not : {t : ℕ} (c : copied-In-Not t) → shape_of (tree_of c.args.s.now) ≡ Shape.Not
 is-not c = sym c.in-Not.ensures
@@ -48,6 +46,9 @@ copied-slice_bounds-copied-count t c = begins-four c.requires.begins
 pub copied-slice_bounds-copied-start : goal.copied-slice_bounds-copied-start
 copied-slice_bounds-copied-start t c = omega (arith, begins-four c.requires.begins)
 
+pub copied-returns-in_ok-r-in-Not : goal.copied-returns-in_ok-r-in-Not
+copied-returns-in_ok-r-in-Not t c = under-wrote c.requires (is-not (goal.at.copied-returns-in_ok-r-in-Not t c).In-Not) _ _ _ c.in_ok-r-in-Not.ensures
+
 pub copied-copied-requires : goal.copied-copied-requires
 copied-copied-requires t c = (omega (arith, c.decreases, part-drop-long 4 c.args.s.now, begins-four c.requires.begins), under-asks c.requires (is-not (goal.at.copied-copied-requires t c).In-Not))
 
@@ -60,9 +61,6 @@ copied-overflow_add-result t c = omega (arith, under-used c.requires (is-not (go
 
 pub copied-window-requires-clause-to_in_bounds : goal.copied-window-requires-clause-to_in_bounds
 copied-window-requires-clause-to_in_bounds t c = omega (arith, (window-is _ c.requires.begins (a-window (goal.at.copied-window-requires-clause-to_in_bounds t c).In-Window)).long, c.requires.room)
-
-pub copied-returns-in_ok-r-in-Not : goal.copied-returns-in_ok-r-in-Not
-copied-returns-in_ok-r-in-Not t c = under-wrote c.requires (is-not (goal.at.copied-returns-in_ok-r-in-Not t c).In-Not) _ _ _ c.in_ok-r-in-Not.ensures
 
 pub copied-returns-in-Window : goal.copied-returns-in-Window
 copied-returns-in-Window t c =

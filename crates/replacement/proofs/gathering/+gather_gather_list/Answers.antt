@@ -2,8 +2,9 @@
 use mathlib.Core.Path.{◌≡◌, sym, ap, subst, ◌∙◌}
 use mathlib.Core.List.{List}
 use mathlib.Core.Bool.{cond}
-use Prim.Native.Nat.{ℕ, ◌-◌}
+use Prim.Native.Nat.{ℕ}
 use native.Mathlib.Omega.{arith}
+use Rattle.std.proofs.Math.Nat.{sub-zero}
 use lib.Dec.{eqb}
 use lib.IntN.{ℤ}
 use Rattle.std.specs.Prelude.{Result}
@@ -78,9 +79,6 @@ gather-returns-in-Window t c =
 
 pub gather_list-loop-init : goal.gather_list-loop-init
 gather_list-loop-init t c = gather-start _ c.requires.gathers c.requires.list (sub-zero c.members_at-end.result ∙ c.members_at-end.ensures)
-  where
-    sub-zero : (n : ℕ) → n - 0 ≡ n
-    sub-zero n = omega arith
 
 pub gather_list-slice_bounds-gather-count : goal.gather_list-slice_bounds-gather-count
 gather_list-slice_bounds-gather-count t c = let g = c.loop.invariant in omega (arith, g.1.walk.used, g.1.walk.within)

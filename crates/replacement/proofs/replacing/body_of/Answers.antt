@@ -8,7 +8,6 @@ use lib.ListN.{length}
 use borrow.Author.Tests.{leb-true}
 use Rattle.reading.specs.Limits.{tree_levels}
 use Rattle.reading.specs.Reading.{tree_of}
-use Rattle.reading.proofs.Trees.{begins}
 use Rattle.rules.proofs.Tame.{tame-fits}
 use Rattle.replacement.specs.Marking.{Marked}
 use Rattle.replacement.proofs.replacing.body_of.Goals as goal
@@ -25,18 +24,6 @@ table c =
       )
       | else-marked w ↦ (ap length w.marks-is, λ e. absurd (omega (arith, leb-true 4 a.n e)))
     ]
-
-pub survey-v-requires : goal.survey-v-requires
-survey-v-requires c = record { begins = (begins c.requires.exactly.0, c.requires.exactly.1); s_len = ap length c.requires.exactly.0.bytes; x_lt_variables = c.requires.x_lt_variables }
-
-pub mark-requires : goal.mark-requires
-mark-requires c = record { exactly = c.requires.exactly; x_lt_variables = c.requires.x_lt_variables; s_len_bound = c.requires.s_len_bound }
-
-pub is_tame-requires : goal.is_tame-requires
-is_tame-requires c = c.survey-v.ensures.0
-
-pub shape_of-marks : goal.shape_of-marks
-shape_of-marks c = (table (goal.at.shape_of-marks c).Joined-marked).0
 
 pub returns : goal.returns
 returns c = let v = c.survey-v.result in
