@@ -1,7 +1,8 @@
 #!/usr/bin/env python3
 """Writes the Rattle code as plain Rust: the contracts, the ghost lines and the `#[cycle]` marks are dropped, nothing else changes.
 
-Run: plain.py CRATE OUTPUT-FOLDER, for a library of the repository. So the program that the benchmark compares with has the same steps, to the letter.
+Run: plain.py CRATE OUTPUT-FOLDER, for a library of the repository. So the program that the benchmark compares with has the same steps, to the letter; of the kit's
+crate arrayvec it takes what bench/arrayvec.rs has in its place.
 """
 
 import pathlib
@@ -12,7 +13,11 @@ import sys
 def rust(text):
     lines, out = text.split("\n"), []
     for line in lines:
-        if re.match(r"\s*((ghost|requires|ensures)\b|#\[cycle\()", line):
+        dropped = re.match(r"\s*((ghost|requires|ensures)\b|#\[cycle\()", line)
+        if dropped:
+            # the last clause of a function without a body ends it
+            if dropped.group(2) in ("requires", "ensures") and line.rstrip().endswith(";"):
+                out.append(";")
             continue
         out.append(line)
     return "\n".join(out)

@@ -7,7 +7,7 @@ ghost use Rattle.rules.specs.Counts.{counted};
 ghost use Rattle.boxes.specs.Boxes.{boxed, box_in, line_told, line_by, added};
 
 use elimination::Counted;
-use reading::u16_at;
+use reading::{DONE, u16_at};
 use std::fmt;
 
 // The bytes of a box before its sheet, and the kind that it has.
@@ -34,7 +34,7 @@ impl From<Counted> for Line {
 
     fn from(c: Counted) -> Self {
         let (answer, verdict, length) = match c.reply {
-            Ok(delivered) => (0, delivered.verdict.number(), delivered.length),
+            Ok(delivered) => (DONE, delivered.verdict.number(), delivered.length),
             Err(refused) => (refused.why.number(), 3, 0),
         };
         Line {

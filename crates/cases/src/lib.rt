@@ -1,7 +1,7 @@
 // What the gate's programs share: the next case of a stream, numbers on a line, and the checksum of bytes.
 #![tactic(auto)]
 
-ghost use Rattle.std.specs.Prelude.{◌≤◌, length, IfOk, IfSome};
+ghost use Rattle.std.specs.Prelude.{◌+◌, ◌<◌, ◌≤◌, length, IfOk, IfSome};
 
 use std::io;
 use std::io::Read;
@@ -12,6 +12,14 @@ pub fn show(rt: &impl Print, n: usize, after: &[u8]) -> io::Result<()> {
     rt.write_all(after)
 }
 
+// The number in the four bytes of s from i on.
+pub fn number_at(s: &[u8], i: usize) -> u64
+    requires { i + 4 ≤ length s.now }
+    ensures { result < 4294967296 }
+{
+    u64::from(u32::from_le_bytes([s[i], s[i + 1], s[i + 2], s[i + 3]]))
+}
+
 // The length of the next case, which stands before it in four bytes; none where the input has ended.
 fn next_length<R: Read>(reader: &mut R) -> io::Result<Option<usize>> {
     let mut head = [0u8; 4];
@@ -19,7 +27,7 @@ fn next_length<R: Read>(reader: &mut R) -> io::Result<Option<usize>> {
     if got < 4 {
         return Ok(None);
     }
-    Ok(Some(u32::from_le_bytes(head) as usize))
+    Ok(Some(number_at(&head, 0) as usize))
 }
 
 // How many bytes the next case has, which are at the start of the buffer then; none where there is no further case, or no room for it.

@@ -159,7 +159,7 @@ fn show_atom(rt: &impl Print, kind: u8, ns: [i64; 9], q: Point) -> io::Result<()
     requires each { Each M ns }
     requires ready { Ready q }
 {
-    match exact::atom_at(exact::comparison_of(kind), ns, q) {
+    match exact::atom_at(kind, ns, q) {
         Put::Decided(v) => print!(rt; " {v}"),
         Put::New(k) => show_row(rt, &k),
         Put::Large(_) => print!(rt; " large"),

@@ -16,18 +16,22 @@ fn body(rt: &impl Print, s: &[u8]) -> io::Result<()> {
 }
 
 // Number and place: 0 and 0 where nothing is refused.
-fn show_read(rt: &impl Print, read: Result<usize, Refused>) -> io::Result<()> {
+fn told(read: Result<usize, Refused>) -> (usize, usize) {
     match read {
-        Ok(_) => print!(rt; "0 0 "),
-        Err(r) => print!(rt; "{} {} ", r.why.number(), r.place),
+        Ok(_) => (reading::DONE, 0),
+        Err(r) => (r.why.number(), r.place),
     }
 }
 
+// The six numbers are one write.
 fn line(rt: &impl Print, s: &[u8]) -> io::Result<()> {
-    show_read(rt, reading::read(s, Limit::Sheet))?;
-    show_read(rt, reading::read(s, Limit::Result))?;
+    let (sheet, at) = told(reading::read(s, Limit::Sheet));
+    let (result, place) = told(reading::read(s, Limit::Result));
     let part = reading::look_part(s);
-    print!(rt; "{} {} ", part.at, part.length)?;
+    print!(rt;
+        "{sheet} {at} {result} {place} {} {} ",
+        part.at, part.length
+    )?;
     body(rt, reading::look(s))?;
     println!(rt)
 }

@@ -193,7 +193,7 @@ fn begun(
     ensures counts { CarriedCounts (tree_of sheet.now) untallied res.new result tally.new }
 {
     let len = sheet.len();
-    res[..len].copy_from_slice(sheet);
+    writing::copy_over(&mut res[..len], sheet);
     carried(res, work, room, len, len, tally)
 }
 

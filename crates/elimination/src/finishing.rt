@@ -38,7 +38,7 @@ fn finish_in(cur: &mut [u8], len: usize, out: &mut [u8]) -> usize
         }
         Came::Kept(e) => {
             if e <= RESULT_BYTES {
-                cur[..e].copy_from_slice(&out[..e]);
+                writing::copy_over(&mut cur[..e], &out[..e]);
             }
             e
         }

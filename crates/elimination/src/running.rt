@@ -20,13 +20,15 @@ pub fn steps(
     ensures counts { RanCounts (held len cur.old) tally.old cur.new result tally.new }
 {
     let mut n = len;
-    while let Some(o) = last_quantifier(&cur[..n]) {
+    let mut found = last_quantifier(&cur[..n]);
+    while let Some(o) = found {
         match stepping::one_step(cur, work, room, n, o, tally) {
             Ok(m) => n = m,
             Err(Stop::Refused(why)) => return Ok(Err(Refused { why, place: o })),
             Err(Stop::Short) => return Err(Short { reached: n }),
         }
         tally.steps += 1;
+        found = last_quantifier(&cur[..n]);
     }
     Ok(Ok(n))
 }

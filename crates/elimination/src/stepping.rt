@@ -9,6 +9,7 @@ ghost use Rattle.elimination.specs.Stepping.{held, stepped, Stands, Tried, Steps
 use crate::{Stop, Tally};
 use reading::{LIST_BYTES, QUANTIFIER_BYTES, RESULT_BYTES, Refusal, binder_at};
 use replacement::{Body, Source, Terms};
+use writing::copy_over;
 
 // Room for the marks of any body.
 const MARKS: usize = 1640;
@@ -35,8 +36,8 @@ fn join(cur: &mut [u8], o: usize, out: &[u8], r: usize, tail: &[u8]) -> Result<u
     }
     let middle = o + r;
     let end = middle + tail.len();
-    cur[o..middle].copy_from_slice(&out[..r]);
-    cur[middle..end].copy_from_slice(tail);
+    copy_over(&mut cur[o..middle], &out[..r]);
+    copy_over(&mut cur[middle..end], tail);
     Ok(end)
 }
 
@@ -52,7 +53,7 @@ fn step_beside(cur: &mut [u8], work: &mut [u8], step: Step) -> Result<usize, Sto
     let from = step.o + QUANTIFIER_BYTES;
     let e = from + step.body.bytes;
     let rest = step.len - e;
-    work[..rest].copy_from_slice(&cur[e..step.len]);
+    copy_over(&mut work[..rest], &cur[e..step.len]);
     let source = Source {
         bytes: &cur[from..e],
         body: step.body,
@@ -81,7 +82,7 @@ fn step_apart(cur: &mut [u8], work: &mut [u8], room: &mut [u8], step: Step) -> R
         marks: step.marks,
     };
     let r = source.made(step.ts, step.every, room)?;
-    work[..rest].copy_from_slice(&cur[e..step.len]);
+    copy_over(&mut work[..rest], &cur[e..step.len]);
     join(cur, step.o, room, r, &work[..rest])
 }
 

@@ -1,12 +1,37 @@
 // An atom at a point: it comes out true, false or as one new atom.
 ghost use Rattle.std.specs.Prelude.{◌≡◌, ◌<◌, length};
 ghost use Rattle.reading.specs.Limits.{M, variables};
+ghost use Rattle.reading.specs.Formula.{Comparison as Rules};
 ghost use Rattle.reading.specs.Views.{comparison_case, comparison_in};
 ghost use Rattle.exact.specs.Numbers.{Each};
 ghost use Rattle.exact.specs.Atoms.{holds, far_of, comparison_of, put_of, settled, point_of, atom_at, spot_of, Ready};
 
 use crate::{Place, Point, Put, number, row, term};
 use reading::Comparison;
+
+// What says which comparison an atom has: the comparison itself, or the number of its kind.
+pub trait Compares {
+    ghost compared: { Self → Rules };
+
+    fn comparison(self) -> Comparison
+        ensures { comparison_in result ≡ compared self };
+}
+
+impl Compares for Comparison {
+    ghost compared = { comparison_in };
+
+    fn comparison(self) -> Comparison {
+        self
+    }
+}
+
+impl Compares for u8 {
+    ghost compared = { comparison_of };
+
+    fn comparison(self) -> Comparison {
+        comparison_of(self)
+    }
+}
 
 // The comparison of each number: LESS of 1, ATMOST of 2, EQUAL of 3 and of every other.
 pub fn comparison_of(kind: u8) -> Comparison
@@ -20,10 +45,10 @@ pub fn comparison_of(kind: u8) -> Comparison
 }
 
 // The comparison of z with 0.
-pub fn holds(c: Comparison, z: i64) -> bool
-    ensures { result ≡ holds (comparison_in c) z }
+pub fn holds<C: Compares>(c: C, z: i64) -> bool
+    ensures { result ≡ holds (C.compared c) z }
 {
-    match c {
+    match c.comparison() {
         Comparison::Less => z < 0,
         Comparison::AtMost => z <= 0,
         Comparison::Equal => z == 0,
@@ -73,7 +98,15 @@ fn far(c: Comparison, falls: bool) -> bool
 }
 
 // The atom at the point. Without the point's variable it keeps its sum.
-pub fn atom_at(c: Comparison, ns: [i64; 9], q: Point) -> Put
+pub fn atom_at<C: Compares>(c: C, ns: [i64; 9], q: Point) -> Put
+    requires each { Each M ns }
+    requires ready { Ready q }
+    ensures { result ≡ put_of (atom_at (spot_of q) (C.compared c) ns) }
+{
+    compared_at(c.comparison(), ns, q)
+}
+
+fn compared_at(c: Comparison, ns: [i64; 9], q: Point) -> Put
     requires each { Each M ns }
     requires ready { Ready q }
     ensures { result ≡ put_of (atom_at (spot_of q) (comparison_in c) ns) }

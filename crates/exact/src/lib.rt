@@ -7,7 +7,7 @@ mod number;
 mod row;
 mod term;
 
-pub use atom::{atom_at, comparison_of, holds};
+pub use atom::{Compares, atom_at, comparison_of, holds};
 pub use number::{abs, gcd, neg};
 pub use row::{all_within, all_zero, gcd_all, negated, reduce, same_row, single, within_all};
 pub use term::{bound_of, left, midpoint, term_of};

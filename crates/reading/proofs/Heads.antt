@@ -1,6 +1,6 @@
 -- 01, 'A sheet on disk': which kind a number is, and that a record of four bytes or more is read by its kind. The functions that read one
 -- record cite it. Assumes nothing.
-use mathlib.Core.Path.{◌≡◌, refl, ◌∙◌}
+use mathlib.Core.Path.{◌≡◌, refl, sym, ◌∙◌, ap}
 use mathlib.Core.List.{List}
 use mathlib.Core.Bool.{cond}
 use Prim.Native.Nat.{ℕ, ◌≤◌, ◌<◌}
@@ -13,6 +13,7 @@ use Rattle.reading.specs.Bytes.{le2, int4, ints}
 use Rattle.reading.specs.Formula.{atom_l, not_l, list_l, quant_l, window_l}
 use Rattle.reading.specs.Records.{Record, bad, opened, sized, all_m, kind_of, by_kind, head, unknown_k}
 use Rattle.reading.specs.Views.{comparison_in, shape_kind, shape_size}
+use Rattle.reading.specs.Answers.{Bad, head_of}
 use Rattle.reading.specs.declared.Shape.{Shape}
 
 -- a number that is none of 1 to 9
@@ -50,6 +51,10 @@ length-wrong k {l} s h = by-shape k l s ∙ simp (ne_eqb l (shape_size k) h)
 pub length-short : (k : Shape) (s : List ℕ) → length s < shape_size k → by_kind (shape_kind k) (shape_size k) s ≡ bad cut_short
 unfolding sized
 length-short k s h = by-shape k (shape_size k) s ∙ simp (eq-eqb (shape_size k) (shape_size k) refl, lt-ltb _ _ h)
+
+-- what is told of a record whose bytes run out
+pub cut_told : (k : Shape) (s : List ℕ) → length s < shape_size k → Bad cut_short ≡ head_of (by_kind (shape_kind k) (shape_size k) s)
+cut_told k s h = ap head_of (sym (length-short k s h))
 
 pub length-right : (k : Shape) (s : List ℕ) → shape_size k ≤ length s → by_kind (shape_kind k) (shape_size k) s ≡ fields_of k s
 unfolding sized

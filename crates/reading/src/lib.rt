@@ -47,7 +47,10 @@ pub const MOST: u32 = 1073741823;
 // The greatest variable's number.
 pub const LAST_VARIABLE: u16 = 7;
 
-// Why a sheet, a step or a test is refused, by the numbers of the table of answers, where 0 stands for no refusal.
+// The number of the answer where nothing is refused.
+pub const DONE: usize = 0;
+
+// Why a sheet, a step or a test is refused, by the numbers of the table of answers.
 #[derive(Clone, Copy, Debug, PartialEq, Eq)]
 pub enum Refusal {
     SmallBuffer = 1,

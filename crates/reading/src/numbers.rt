@@ -5,6 +5,8 @@ ghost use Rattle.reading.specs.Records.{in_m, all_m};
 
 use crate::MOST;
 
+const LEAST: i64 = -(MOST as i64);
+
 pub fn u16_at(s: &[u8], i: usize) -> u16
     requires { i + 2 ≤ length s.now }
     ensures { result ≡ le2 s.now i }
@@ -32,19 +34,19 @@ pub fn nine(s: &[u8]) -> [i64; 9]
     m
 }
 
-// Whether a number lies in -MOST..MOST.
+// Whether a number lies in -MOST..MOST: by its two ends, which is one test of the machine, where its size would first be found.
 fn in_m(z: i64) -> bool
     ensures { result ≡ in_m z }
 {
-    z.unsigned_abs() <= MOST as u64
+    LEAST <= z && z <= MOST as i64
 }
 
-// Whether n signed numbers from `at` on do.
-pub fn nums_ok(s: &[u8], at: usize, n: usize) -> bool
-    requires { at + 4 * n ≤ length s.now }
-    ensures { result ≡ all_m n at s.now }
+// Whether N signed numbers from `at` on do. The count is a const parameter so that the few tests are made one after the other, and no loop.
+pub fn nums_ok<const N: usize>(s: &[u8], at: usize) -> bool
+    requires { at + 4 * N ≤ length s.now }
+    ensures { result ≡ all_m N at s.now }
 {
-    for i in 0..n {
+    for i in 0..N {
         if !in_m(int_at(s, at + 4 * i)) {
             return false;
         }

@@ -22,7 +22,7 @@ fn fields_at(s: &[u8], shape: Shape) -> Result<Record, Refusal>
 {
     let follow = match shape {
         Shape::Atom(_) => {
-            if !nums_ok(s, 4, 9) {
+            if !nums_ok::<9>(s, 4) {
                 return Err(Refusal::WrongNumber);
             }
             0
@@ -39,13 +39,25 @@ fn fields_at(s: &[u8], shape: Shape) -> Result<Record, Refusal>
             if LAST_VARIABLE < u16_at(s, 4) {
                 return Err(Refusal::WrongVariable);
             }
-            if !nums_ok(s, 6, 2) {
+            if !nums_ok::<2>(s, 6) {
                 return Err(Refusal::WrongNumber);
             }
             0
         }
     };
     Ok(Record { shape, follow })
+}
+
+// The record of that kind and of its length, by its bytes: they run out, or its fields decide.
+#[tactic(auto, using(crate::proofs::Heads::cut_told))]
+fn whole_at(s: &[u8], shape: Shape) -> Result<Record, Refusal>
+    ensures { head_told result ≡ head_of (by_kind (shape_kind shape) (shape_size shape) s.now) }
+{
+    let bytes = shape.bytes();
+    if s.len() < bytes {
+        return Err(Refusal::CutShort);
+    }
+    fields_at(s, shape)
 }
 
 // The record that s begins with.
@@ -58,12 +70,8 @@ pub fn record_at(s: &[u8]) -> Result<Record, Refusal>
     let Ok(shape) = Shape::try_from(u16_at(s, 2)) else {
         return Err(Refusal::WrongKind);
     };
-    let bytes = shape.bytes();
-    if u16_at(s, 0) as usize != bytes {
+    if u16_at(s, 0) as usize != shape.bytes() {
         return Err(Refusal::WrongLength);
     }
-    if s.len() < bytes {
-        return Err(Refusal::CutShort);
-    }
-    fields_at(s, shape)
+    whole_at(s, shape)
 }

@@ -37,7 +37,7 @@ fn atom(
     let came = match atom_at(c, ns, q) {
         Put::Decided(v) => Came::Decided(v),
         Put::New(k) => {
-            writing::put_atom(out, to, c, &k);
+            writing::put_atom(out, to, c.number(), &k);
             Came::Kept(to + ATOM_BYTES)
         }
         Put::Large(_) => return Err(TooBig),

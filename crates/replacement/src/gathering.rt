@@ -10,7 +10,7 @@ ghost use Rattle.replacement.specs.Gathering.{Table, Gathers, Collected};
 
 use crate::TooMany;
 use arrayvec::ArrayVec;
-use exact::{bound_of, term_of};
+use exact::{bound_of, same_row, term_of};
 use reading::{
     ATOM_BYTES, LIST_BYTES, NOT_BYTES, Shape, WINDOW_BYTES, Window, members_at, row_at, shape_at,
     window_at,
@@ -25,7 +25,7 @@ fn add(ts: &mut Terms, t: [i64; 10]) -> Result<(), TooMany>
     requires each { Each M t }
     ensures { Collected tt (insert t ts.old.items) ts.new.items result }
 {
-    if ts.contains(&t) {
+    if ts.iter().any(|u| same_row(u, &t)) {
         return Ok(());
     }
     if ts.is_full() {

@@ -9,7 +9,7 @@ ghost use Rattle.rules.specs.Tame.{tame};
 ghost use Rattle.replacement.specs.Surveying.{Small, Grows, Sees, SeesLeaf};
 
 use crate::Survey;
-use exact::MOST;
+use exact::{MOST, abs};
 use reading::{Shape, Window, record_bytes, row_at, shape_at, window_at};
 
 // The greatest size of a number of the row, that of x left out.
@@ -20,7 +20,7 @@ fn others(ns: &[i64], x: usize) -> u64
     let mut m: u64 = 0;
     for (i, z) in ns.iter().enumerate() {
         if i != x {
-            m = m.max(z.unsigned_abs());
+            m = m.max(abs(*z));
         }
     }
     m
@@ -38,7 +38,7 @@ fn of_atom(ns: [i64; 9], x: usize, v: Survey) -> Survey
         return v;
     }
     Survey {
-        most: v.most.max(a.unsigned_abs()),
+        most: v.most.max(abs(a)),
         other: v.other.max(others(&ns, x)),
     }
 }
@@ -55,7 +55,7 @@ fn of_window(w: Window, x: usize, v: Survey) -> Survey
     }
     Survey {
         most: v.most.max(1),
-        other: v.other.max(w.lo.unsigned_abs().max(w.hi.unsigned_abs())),
+        other: v.other.max(abs(w.lo).max(abs(w.hi))),
     }
 }
 

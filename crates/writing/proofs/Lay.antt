@@ -59,6 +59,10 @@ pub lay-mid : (at n : ℕ) (b y d : List ℕ) → y ≡ b → n ≡ length b →
 lay-mid at n b y d e f h =
     ap₂ (λ (x : List ℕ) (m : ℕ). put_mid at m d x) e f ∙ ap (λ (r : List ℕ). take at d ++ (b ++ r)) (drop-drop (length b) at d) ∙ sym (lay-whole at b d h)
 
+-- over as many others
+pub lay-over : (b d : List ℕ) → length b ≡ length d → lay 0 b d ≡ b
+lay-over b d e = lay-whole 0 b d (omega arith) ∙ ap (λ (r : List ℕ). b ++ r) (drop_of_length-le d (omega arith)) ∙ append-nil b
+
 -- what was written from n on left what stands before
 pub keeps : (n : ℕ) (b o o' : List ℕ) (m : ℕ) → take (n + length b) o' ≡ take n o ++ b → m ≤ n → n ≤ length o → take m o' ≡ take m o
 keeps n b o o' m e h k =
@@ -74,16 +78,24 @@ cancel p n o b k f e =
 
 -- ---- bytes in a row
 
-pub bytes-turn : (b : List ℕ) (i at : ℕ) (d T : List ℕ) → i < length b → lay (at + i) (drop i b) d ≡ T → lay (at + (i + 1)) (drop (i + 1) b) (set d (at + i) (get_or b i 0)) ≡ T
+-- one byte more, at the place p
+pub lay-turn : (b : List ℕ) (i p : ℕ) (d T : List ℕ) → i < length b → lay p (drop i b) d ≡ T → lay (p + 1) (drop (i + 1) b) (set d p (get_or b i 0)) ≡ T
 unfolding lay
-bytes-turn b i at d T lt e =
+lay-turn b i p d T lt e =
     let f : drop i b ≡ get_or b i 0 ∷ drop (i + 1) b = drop-cons b i 0 lt ∙ ap (λ (n : ℕ). get_or b i 0 ∷ drop n b) (sym (add-one i)) in
+    sym (ap (λ (l : List ℕ). lay p l d) f) ∙ e
+
+pub bytes-turn : (b : List ℕ) (i at : ℕ) (d T : List ℕ) → i < length b → lay (at + i) (drop i b) d ≡ T → lay (at + (i + 1)) (drop (i + 1) b) (set d (at + i) (get_or b i 0)) ≡ T
+bytes-turn b i at d T lt e =
     let to : at + (i + 1) ≡ at + i + 1 = omega arith in
-    ap (λ (n : ℕ). lay n (drop (i + 1) b) (set d (at + i) (get_or b i 0))) to ∙ sym (ap (λ (l : List ℕ). lay (at + i) l d) f) ∙ e
+    ap (λ (n : ℕ). lay n (drop (i + 1) b) (set d (at + i) (get_or b i 0))) to ∙ lay-turn b i (at + i) d T lt e
+
+pub lay-end : (b : List ℕ) (i p : ℕ) (d T : List ℕ) → length b ≤ i → lay p (drop i b) d ≡ T → d ≡ T
+unfolding lay
+lay-end b i p d T h e = sym (ap (λ (l : List ℕ). lay p l d) (drop_of_length-le b h)) ∙ e
 
 pub bytes-end : (b : List ℕ) (i at : ℕ) (d T : List ℕ) → length b ≤ i → lay (at + i) (drop i b) d ≡ T → d ≡ T
-unfolding lay
-bytes-end b i at d T h e = sym (ap (λ (l : List ℕ). lay (at + i) l d) (drop_of_length-le b h)) ∙ e
+bytes-end b i at = lay-end b i (at + i)
 
 -- ---- numbers in a row
 

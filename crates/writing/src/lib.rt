@@ -7,11 +7,8 @@ ghost use Rattle.std.proofs.Common.{of_z};
 ghost use Rattle.reading.specs.Limits.{M};
 ghost use Rattle.reading.specs.Bytes.{bytes2, bytes4, int_bytes, zeros};
 ghost use Rattle.reading.specs.Formula.{list_no};
-ghost use Rattle.reading.specs.Views.{comparison_case_no};
 ghost use Rattle.exact.specs.Numbers.{Within, Each};
 ghost use Rattle.writing.specs.Writing.{lay, atom_bytes, list_bytes};
-
-use reading::Comparison;
 
 // Bytes, laid over those that stand from `at` on.
 pub fn paste(d: &mut [u8], at: usize, b: &[u8])
@@ -21,7 +18,18 @@ pub fn paste(d: &mut [u8], at: usize, b: &[u8])
     d[at..at + b.len()].copy_from_slice(b);
 }
 
-// The same for an array: its few bytes are stores, and no copy of a slice.
+// Bytes in the place of as many others, one after the other: where their number is not known before, `copy_from_slice` has an archive for C ask for
+// memmove from outside.
+pub fn copy_over(d: &mut [u8], b: &[u8])
+    requires { length b.now ≡ length d.old }
+    ensures { d.new ≡ b.now }
+{
+    for (i, x) in b.iter().enumerate() {
+        d[i] = *x;
+    }
+}
+
+// Bytes of an array, laid from `at` on: its few bytes are stores, and no copy of a slice.
 fn put<const N: usize>(d: &mut [u8], at: usize, b: &[u8; N])
     requires { at + N ≤ length d.old }
     ensures { d.new ≡ lay at b.now d.old }
@@ -34,6 +42,13 @@ fn put<const N: usize>(d: &mut [u8], at: usize, b: &[u8; N])
 pub fn put_u16(d: &mut [u8], at: usize, n: u16)
     requires { at + 2 ≤ length d.old }
     ensures { d.new ≡ lay at (bytes2 n) d.old }
+{
+    put(d, at, &n.to_le_bytes());
+}
+
+pub fn put_u32(d: &mut [u8], at: usize, n: u32)
+    requires { at + 4 ≤ length d.old }
+    ensures { d.new ≡ lay at (bytes4 n) d.old }
 {
     put(d, at, &n.to_le_bytes());
 }
@@ -57,14 +72,14 @@ pub fn put_nums(d: &mut [u8], at: usize, k: &[i64; 9])
     }
 }
 
-// An atom, with its nine numbers.
-pub fn put_atom(d: &mut [u8], at: usize, c: Comparison, k: &[i64; 9])
+// An atom of the kind, with its nine numbers. Any number is laid as the kind, so that what rewrites sheets can write other atoms too.
+pub fn put_atom(d: &mut [u8], at: usize, kind: u16, k: &[i64; 9])
     requires at_in_bounds { at + 40 ≤ length d.old }
     requires each { Each M k.now }
-    ensures { d.new ≡ lay at (atom_bytes (comparison_case_no c) k.now) d.old }
+    ensures { d.new ≡ lay at (atom_bytes kind k.now) d.old }
 {
     put_u16(d, at, 40);
-    put_u16(d, at + 2, c.number());
+    put_u16(d, at + 2, kind);
     put_nums(d, at + 4, k);
 }
 

@@ -20,12 +20,7 @@ use Rattle.reading.proofs.Lengths.{more-long}
 use Rattle.reading.proofs.Walking.{Inner, inner_of, Walk, walk_start, walk_begins, walk-tree, walk-next, walk_end}
 use Rattle.exact.specs.Numbers.{at, is_zero, same_row}
 use Rattle.exact.specs.Terms.{term_of, bound_of}
-use Rattle.exact.proofs.Rows.{same-is, same_self}
-use Rattle.std.proofs.lemmas.Bool.Decides.{same_from_decides, Decides-int_eq}
-use Rattle.std.proofs.lemmas.Slice.Eq.{slice_eq-Decides}
 use Rattle.std.specs.List.{list_any}
-use Rattle.std.specs.Cmp.Lexicographic.{pointwise}
-use Rattle.std.specs.Ordering.{int_eq}
 use Rattle.replacement.proofs.Outcomes.{many-refused, fine-is, full-is, fine-table}
 use Rattle.replacement.specs.declared.TooMany.{TooMany}
 use Rattle.rules.specs.Points.{insert, gather, gather_all}
@@ -33,21 +28,16 @@ use Rattle.replacement.specs.Gathering.{Row, Rows, Table, among, Gathers, Collec
 
 -- ---- whether a term is among the rows
 
--- the library's `==` on rows says what the test says
-same-pointwise : (a b : List ℤ) → pointwise int_eq a b ≡ same_row a b
-same-pointwise a b =
-    same_from_decides (pointwise int_eq a b) (same_row a b) (slice_eq-Decides Decides-int_eq a b (pointwise int_eq a b) refl) (same-is a b, λ e. subst (λ (c : List ℤ). same_row a c ≡ true) e (same_self a))
-
 module _ (t : List ℤ) where
-  -- which is what the library's search answers
-  pub among-is : (us : List (List ℤ)) → list_any (λ (u : List ℤ). pointwise int_eq u t) us ≡ among t us
+  -- which is what the library's search by that test answers
+  pub among-is : (us : List (List ℤ)) → list_any (λ (u : List ℤ). same_row u t) us ≡ among t us
   unfolding among
   among-is [] = refl
-  among-is (u ∷ us) = go (same_row u t) (same-pointwise u t) (among-is us)
+  among-is (u ∷ us) = go (same_row u t) (among-is us)
     where
-      go : (b : Bool) → pointwise int_eq u t ≡ b → list_any (λ (v : List ℤ). pointwise int_eq v t) us ≡ among t us → (pointwise int_eq u t || list_any (λ (v : List ℤ). pointwise int_eq v t) us) ≡ cond b true (among t us)
-      go true e h = ap (λ (b : Bool). b || list_any (λ (v : List ℤ). pointwise int_eq v t) us) e
-      go false e h = ap (λ (b : Bool). b || list_any (λ (v : List ℤ). pointwise int_eq v t) us) e ∙ h
+      go : (b : Bool) → list_any (λ (v : List ℤ). same_row v t) us ≡ among t us → (b || list_any (λ (v : List ℤ). same_row v t) us) ≡ cond b true (among t us)
+      go true h = refl
+      go false h = h
 
   insert-is : (us : List (List ℤ)) → insert t us ≡ cond (among t us) us (us ++ (t ∷ []))
   unfolding insert among

@@ -1,9 +1,6 @@
 -- `put_atom`: length, kind and numbers, laid one after the other.
-use mathlib.Core.Path.{◌∙◌, ap}
-use Prim.Native.Nat.{ℕ}
-use Rattle.writing.specs.Writing.{lay, atom_bytes}
 use Rattle.writing.proofs.Lay.{lay-atom}
 use Rattle.writing.proofs.put_atom.Goals as goal
 
 pub returns : goal.returns
-returns c = lay-atom _ _ _ _ _ _ _ c.put_u16.ensures c.put_u16-2.ensures c.put_nums.ensures ∙ ap (λ (n : ℕ). lay c.args.at (atom_bytes n c.args.k.now) c.args.d.now) c.number.ensures
+returns c = lay-atom _ _ _ _ _ _ _ c.put_u16.ensures c.put_u16-2.ensures c.put_nums.ensures

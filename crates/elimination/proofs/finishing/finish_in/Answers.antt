@@ -25,7 +25,7 @@ pub returns-in-Decided : goal.returns-in-Decided
 returns-in-Decided c = finish-sure (held c.args.len c.args.cur.now) (wrote (goal.at.returns-in-Decided c).After-copied c.in-Ok.ensures) c.in-Decided.v c.args.cur.now c.put_list.new.d c.requires.unquantified.stands.long c.in-Decided.is c.put_list.ensures
 
 pub returns-then-e-le-RESULT_BYTES : goal.returns-then-e-le-RESULT_BYTES
-returns-then-e-le-RESULT_BYTES c = finish-put (held c.args.len c.args.cur.now) (wrote (goal.at.returns-then-e-le-RESULT_BYTES c).After-copied c.in-Ok.ensures) c.in-Kept.e c.args.cur.now c.copy_from_slice.new.self c.in-Kept.is c.if-e-le-RESULT_BYTES.true c.copy_from_slice.ensures.after
+returns-then-e-le-RESULT_BYTES c = finish-put (held c.args.len c.args.cur.now) (wrote (goal.at.returns-then-e-le-RESULT_BYTES c).After-copied c.in-Ok.ensures) c.in-Kept.e c.args.cur.now c.copy_over.new.d c.in-Kept.is c.if-e-le-RESULT_BYTES.true c.copy_over.ensures
 
 pub returns-else-e-le-RESULT_BYTES : goal.returns-else-e-le-RESULT_BYTES
 returns-else-e-le-RESULT_BYTES c = finish-long (held c.args.len c.args.cur.now) (wrote (goal.at.returns-else-e-le-RESULT_BYTES c).After-copied c.in-Ok.ensures) c.in-Kept.e c.args.cur.now c.in-Kept.is c.if-e-le-RESULT_BYTES.false

@@ -22,8 +22,8 @@ returns-in_err-r c = let p = err_from_is_err_and c.from_residual.result c.from_r
 
 pub returns : goal.returns
 returns c =
-    let t : Tail c.args.step.len (c.args.step.o + 6 + c.args.step.body.bytes) c.args.cur.now c.copy_from_slice.new.self = tail-of c.requires.poised.within (omega (arith, c.requires.poised.stands.few, c.requires.poised.stands.long)) c.copy_from_slice.ensures.after in
-    let b : Begun (c.args.step.len - (c.args.step.o + 6 + c.args.step.body.bytes)) c.args.work.now c.copy_from_slice.new.self = record { few = omega (arith, c.requires.poised.stands.few); room = c.requires.result_bytes_in_bounds; long = t.long } in
+    let t : Tail c.args.step.len (c.args.step.o + 6 + c.args.step.body.bytes) c.args.cur.now c.copy_over.new.d = tail-of c.requires.poised.within (omega (arith, c.requires.poised.stands.few, c.requires.poised.stands.long)) c.copy_over.ensures in
+    let b : Begun (c.args.step.len - (c.args.step.o + 6 + c.args.step.body.bytes)) c.args.work.now c.copy_over.new.d = record { few = omega (arith, c.requires.poised.stands.few); room = c.requires.result_bytes_in_bounds; long = t.long } in
     let f = made_told c.requires.poised 0 c.made.new.out (Ok c.in_ok-r.r) c.in_ok-r.ensures in
     record {
       tried = step-fine c.requires.poised f (begun-front b ∙ t.behind) (begun-rest b) c.join.ensures;

@@ -5,4 +5,4 @@ use Rattle.reading.specs.Records.{all_m}
 use Rattle.reading.proofs.numbers.nums_ok.Given as goal
 
 abbrev pub invariant-loop-i : goal.invariant-loop-i
-invariant-loop-i l = all_m l.n l.at l.s ≡ all_m (l.n - l.i) (l.at + 4 * l.i) l.s
+invariant-loop-i g l = all_m g.row.N l.at l.s ≡ all_m (g.row.N - l.i) (l.at + 4 * l.i) l.s

@@ -1,7 +1,7 @@
 use mathlib.Core.Path.{refl, sym, ◌∙◌}
 use borrow.Author.Tests.{lt-ltb}
 use Rattle.reading.specs.Records.{by_kind, head}
-use Rattle.reading.proofs.Heads.{head_at, length-wrong, length-short}
+use Rattle.reading.proofs.Heads.{head_at, length-wrong}
 use Rattle.reading.proofs.records.record_at.Goals as goal
 
 pub returns-then-s-lt4 : goal.returns-then-s-lt4
@@ -13,10 +13,7 @@ unfolding by_kind
 returns-in_default c = rw (head_at c.args.s.now c.if-s-lt4.false refl c.u16_at.ensures, ← c.in_default.ensures)
 
 pub returns-then-u16_at-bytes : goal.returns-then-u16_at-bytes
-returns-then-u16_at-bytes c = rw (head_at c.args.s.now c.if-s-lt4.false c.u16_at-2.ensures c.u16_at.ensures, ← c.in-Ok.ensures, length-wrong c.in-Ok.shape c.args.s.now (λ e. c.if-u16_at-bytes.true (e ∙ sym c.bytes-bytes.ensures)))
-
-pub returns-then-s-bytes : goal.returns-then-s-bytes
-returns-then-s-bytes c = rw (head_at c.args.s.now c.if-s-lt4.false c.u16_at-2.ensures c.u16_at.ensures, ← c.in-Ok.ensures, c.if-u16_at-bytes.false ∙ c.bytes-bytes.ensures, length-short c.in-Ok.shape c.args.s.now (rw (← c.bytes-bytes.ensures) c.if-s-bytes.true))
+returns-then-u16_at-bytes c = rw (head_at c.args.s.now c.if-s-lt4.false c.u16_at-2.ensures c.u16_at.ensures, ← c.in-Ok.ensures, length-wrong c.in-Ok.shape c.args.s.now (λ e. c.if-u16_at-bytes.true (e ∙ sym c.bytes.ensures)))
 
 pub returns : goal.returns
-returns c = rw (head_at c.args.s.now c.if-s-lt4.false c.u16_at-2.ensures c.u16_at.ensures, ← c.in-Ok.ensures, c.if-u16_at-bytes.false ∙ c.bytes-bytes.ensures) c.fields_at.ensures
+returns c = rw (head_at c.args.s.now c.if-s-lt4.false c.u16_at-2.ensures c.u16_at.ensures, ← c.in-Ok.ensures, c.if-u16_at-bytes.false ∙ c.bytes.ensures) c.whole_at.ensures

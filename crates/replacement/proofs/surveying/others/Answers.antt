@@ -18,7 +18,7 @@ loop-i-preserved c = let ns = c.args.ns.now in
     elim c.if-i-x.branch [
       | then-i-x w ↦
           let n : nat_abs (left_at ns x i) ≡ nat_abs (at ns i) = ap nat_abs (left-other ns x i w.if-i-x.true) in
-          let v : w.unsigned_abs.result ≡ nat_abs (at ns i) = w.unsigned_abs.ensures.value ∙ ap nat_abs (rd-at c.requires tt i) in
+          let v : w.abs.result ≡ nat_abs (at ns i) = w.abs.ensures ∙ ap nat_abs (rd-at c.requires tt i) in
           (left-more ns x h.0 (omega (arith, w.max-m.ensures, w.m-is)) (omega (arith, w.max-m.ensures, w.m-is, n, v)), omega (arith, w.max-m.ensures, w.m-is, v, k, h.1))
       | else-i-x w ↦
           let n : nat_abs (left_at ns x i) ≡ 0 = ap nat_abs (left-self ns x i w.if-i-x.false) in

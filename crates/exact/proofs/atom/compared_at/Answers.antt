@@ -1,4 +1,4 @@
--- `atom_at` meets its contract: without x the atom is settled as it stands, and otherwise by the point's place. Assumes nothing.
+-- `compared_at` meets its contract: without x the atom is settled as it stands, and otherwise by the point's place. Assumes nothing.
 use Rattle.std.proofs.Common.{sym, ◌∙◌, ap, subst, ℤ, List, not}
 use lib.Signed.{lt_z}
 use lib.IntN.{pos}
@@ -9,7 +9,7 @@ use Rattle.exact.specs.declared.Put.TheVariants.{Decided}
 use Rattle.exact.specs.declared.Place.TheVariants.{Below, Above, At, Nowhere}
 use Rattle.exact.proofs.Atoms.{at_above, at-below, at_here, at-place, at-nowhere, at-without, zero_is, zero-not, each-point}
 use Rattle.exact.proofs.Rows.{rd-at}
-use Rattle.exact.proofs.atom.atom_at.Goals as goal
+use Rattle.exact.proofs.atom.compared_at.Goals as goal
 
 pub returns-then-a-eq0 : goal.returns-then-a-eq0
 returns-then-a-eq0 c = let q = c.args.q in c.settled.ensures ∙ ap put_of (sym (at-without q.place q.x _ _ (zero_is q.x c.requires.each c.if-a-eq0.true)))
