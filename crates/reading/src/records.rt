@@ -50,10 +50,10 @@ fn fields_at(s: &[u8], shape: Shape) -> Result<Record, Refusal>
 
 // The record of that kind and of its length, by its bytes: they run out, or its fields decide.
 #[tactic(auto, using(crate::proofs::Heads::cut_told))]
-fn whole_at(s: &[u8], shape: Shape) -> Result<Record, Refusal>
+fn whole_at(s: &[u8], shape: Shape, bytes: usize) -> Result<Record, Refusal>
+    requires { bytes ≡ shape_size shape }
     ensures { head_told result ≡ head_of (by_kind (shape_kind shape) (shape_size shape) s.now) }
 {
-    let bytes = shape.bytes();
     if s.len() < bytes {
         return Err(Refusal::CutShort);
     }
@@ -70,8 +70,9 @@ pub fn record_at(s: &[u8]) -> Result<Record, Refusal>
     let Ok(shape) = Shape::try_from(u16_at(s, 2)) else {
         return Err(Refusal::WrongKind);
     };
-    if u16_at(s, 0) as usize != shape.bytes() {
+    let bytes = shape.bytes();
+    if u16_at(s, 0) as usize != bytes {
         return Err(Refusal::WrongLength);
     }
-    whole_at(s, shape)
+    whole_at(s, shape, bytes)
 }

@@ -13,7 +13,7 @@ unfolding by_kind
 returns-in_default c = rw (head_at c.args.s.now c.if-s-lt4.false refl c.u16_at.ensures, ← c.in_default.ensures)
 
 pub returns-then-u16_at-bytes : goal.returns-then-u16_at-bytes
-returns-then-u16_at-bytes c = rw (head_at c.args.s.now c.if-s-lt4.false c.u16_at-2.ensures c.u16_at.ensures, ← c.in-Ok.ensures, length-wrong c.in-Ok.shape c.args.s.now (λ e. c.if-u16_at-bytes.true (e ∙ sym c.bytes.ensures)))
+returns-then-u16_at-bytes c = rw (head_at c.args.s.now c.if-s-lt4.false c.u16_at-2.ensures c.u16_at.ensures, ← c.in-Ok.ensures, length-wrong c.in-Ok.shape c.args.s.now (λ e. c.if-u16_at-bytes.true (e ∙ sym c.bytes-bytes.ensures)))
 
 pub returns : goal.returns
-returns c = rw (head_at c.args.s.now c.if-s-lt4.false c.u16_at-2.ensures c.u16_at.ensures, ← c.in-Ok.ensures, c.if-u16_at-bytes.false ∙ c.bytes.ensures) c.whole_at.ensures
+returns c = rw (head_at c.args.s.now c.if-s-lt4.false c.u16_at-2.ensures c.u16_at.ensures, ← c.in-Ok.ensures, c.if-u16_at-bytes.false ∙ c.bytes-bytes.ensures) c.whole_at.ensures
